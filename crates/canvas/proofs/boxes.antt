@@ -1,0 +1,2 @@
+-- The laws of boxes.
+pub mod Boxes

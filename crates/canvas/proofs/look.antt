@@ -1,0 +1,2 @@
+-- What a pixel read means.
+pub mod Looks

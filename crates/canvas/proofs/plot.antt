@@ -1,0 +1,5 @@
+-- The laws of plots.
+pub mod Fates
+pub mod Draws
+pub mod Paints
+pub mod Answers

@@ -1,0 +1,73 @@
+-- What plots leave is the paint of the landed ones, and their number; and inks that agree on words paint alike.
+use mathlib.Core.Path.{_≡_, refl, sym, ap, ap₂, _∙_}
+use mathlib.Core.List.{List, [], _∷_, _++_}
+use Prim.Native.Nat.{ℕ, zero, suc, _+_, _≤_, _<_}
+use native.Mathlib.Omega.{arith}
+use lib.IntN.{natAbs}
+use lib.ListN.{length}
+use Rattle.words.specs.Format.{range}
+use Rattle.canvas.specs.declared.Canvas.{Canvas}
+use Rattle.canvas.specs.declared.Clip.{Clip}
+use Rattle.canvas.specs.declared.Tally.{Tally}
+use Rattle.canvas.specs.Bytes.{form, loadAt, storeAt}
+use Rattle.canvas.specs.Plot.{Point, Plot, plot, inks, Fate, landed, outside, clipped, fate, Hit, hit, hitOf, keep, hits, touch, paint}
+use Rattle.canvas.specs.Walk.{Work, work, act, drawn}
+use Rattle.canvas.proofs.bytes.Cells.{Bytes}
+use Rattle.canvas.proofs.bytes.Pixels.{bytes-store, load-lt}
+
+abbrev tally : ℕ → Tally
+tally n = record { landed = n }
+
+act-paints : (v : Canvas) (p : Plot) (f : Fate) (hs : List Hit) (w : Work) → paint v hs (act v p f w .bytes) ≡ paint v (keep f (hitOf p) hs) (w .bytes)
+unfolding paint
+act-paints v p landed hs w = refl
+act-paints v p outside hs w = refl
+act-paints v p clipped hs w = refl
+
+act-counts : (v : Canvas) (p : Plot) (f : Fate) (hs : List Hit) (w : Work) → act v p f w .tally .landed + length hs ≡ w .tally .landed + length (keep f (hitOf p) hs)
+act-counts v p landed hs w = omega arith
+act-counts v p outside hs w = refl
+act-counts v p clipped hs w = refl
+
+pub drawn-is : (v : Canvas) (c : Clip) (ps : List Plot) (w : Work)
+    → drawn v c ps w ≡ work (paint v (hits v c ps) (w .bytes)) (tally (w .tally .landed + length (hits v c ps)))
+unfolding drawn hits paint
+drawn-is v c [] w = ap (λ (n : ℕ). work (w .bytes) (tally n)) (omega arith)
+drawn-is v c (p ∷ ps) w =
+    drawn-is v c ps (act v p (fate v c p) w)
+    ∙ ap₂ (λ (b : List ℕ) (n : ℕ). work b (tally n))
+    (act-paints v p (fate v c p) (hits v c ps) w) (act-counts v p (fate v c p) (hits v c ps) w)
+
+-- ---- inks that agree on words
+
+touch-ink : (v : Canvas) (b : List ℕ) (x y : ℕ) (f g : ℕ → ℕ) → Bytes b → ((w : ℕ) → w < range (form v) → f w ≡ g w) → touch v b (hit f x y) ≡ touch v b (hit g x y)
+unfolding touch
+touch-ink v b x y f g h e = ap (storeAt v b x y) (e (loadAt v b x y) (load-lt v b x y h))
+
+touch-bytes : (v : Canvas) (b : List ℕ) (h : Hit) → Bytes b → Bytes (touch v b h)
+unfolding touch
+touch-bytes v b h o = bytes-store v b (h .x) (h .y) _ o
+
+act-bytes : (v : Canvas) (p : Plot) (f : Fate) (w : Work) → Bytes (w .bytes) → Bytes (act v p f w .bytes)
+act-bytes v p landed w h = touch-bytes v (w .bytes) (hitOf p) h
+act-bytes v p outside w h = h
+act-bytes v p clipped w h = h
+
+module _ (v : Canvas) (c : Clip) (f g : ℕ → ℕ) (e : (w : ℕ) → w < range (form v) → f w ≡ g w) where
+  act-ink : (p : Point) (t : Fate) (w : Work) → Bytes (w .bytes) → act v (plot f (p .x) (p .y)) t w ≡ act v (plot g (p .x) (p .y)) t w
+  act-ink p landed w h = ap (λ (b : List ℕ). work b (tally (w .tally .landed + 1))) (touch-ink v (w .bytes) (natAbs (p .x)) (natAbs (p .y)) f g h e)
+  act-ink p outside w h = refl
+  act-ink p clipped w h = refl
+
+  pub drawn-ink : (ps : List Point) (w : Work) → Bytes (w .bytes) → drawn v c (inks f ps) w ≡ drawn v c (inks g ps) w
+  unfolding drawn inks fate
+  drawn-ink [] w h = refl
+  drawn-ink (p ∷ ps) w h =
+      let t = fate v c (plot f (p .x) (p .y)) in
+      drawn-ink ps (act v (plot f (p .x) (p .y)) t w) (act-bytes v (plot f (p .x) (p .y)) t w h)
+      ∙ ap (drawn v c (inks g ps)) (act-ink p t w h)
+
+pub inks-length : (f : ℕ → ℕ) (ps : List Point) → length (inks f ps) ≡ length ps
+unfolding inks
+inks-length f [] = refl
+inks-length f (p ∷ ps) = ap suc (inks-length f ps)

@@ -1,0 +1,79 @@
+-- Plots: where they land, what they leave in the bytes, and how many land.
+use mathlib.Core.Bool.{Bool, true, false}
+use mathlib.Core.List.{List, [], _∷_}
+use Prim.Native.Nat.{ℕ, _+_}
+use lib.IntN.{ℤ, pos, natAbs}
+use Rattle.canvas.specs.declared.Canvas.{Canvas}
+use Rattle.canvas.specs.declared.Clip.{Clip}
+use Rattle.canvas.specs.Bytes.{loadAt, storeAt}
+use Rattle.canvas.specs.Clip.{both, within, inClip}
+
+-- A shape is a list of points, on the canvas or off it.
+pub record Point : Type 0 where
+  pub x : ℤ
+  pub y : ℤ
+
+abbrev pub at : ℤ → ℤ → Point
+at x y = record { x = x; y = y }
+
+-- A point, and what becomes of the word stored there.
+pub record Plot : Type 0 where
+  pub x : ℤ
+  pub y : ℤ
+  pub ink : ℕ → ℕ
+
+abbrev pub plot : (ℕ → ℕ) → ℤ → ℤ → Plot
+plot f x y = record { x = x; y = y; ink = f }
+
+-- A plot with one ink at each of the points.
+unfoldable pub inks : (ℕ → ℕ) → List Point → List Plot
+inks f [] = []
+inks f (p ∷ ps) = plot f (p .x) (p .y) ∷ inks f ps
+
+unfoldable pub onCanvas : Canvas → ℤ → ℤ → Bool
+onCanvas v x y = both (within (pos 0) (v .width) x) (within (pos 0) (v .height) y)
+
+-- What becomes of a plot.
+pub data Fate : Type 0 where
+  landed : Fate
+  outside : Fate
+  clipped : Fate
+
+abbrev pub judge : Bool → Bool → Fate
+judge true true = landed
+judge true false = clipped
+judge false t = outside
+
+-- "The canvas bound is tested, then the clip"
+unfoldable pub fate : Canvas → Clip → Plot → Fate
+fate v c p = judge (onCanvas v (p .x) (p .y)) (inClip c (p .x) (p .y))
+
+-- A pixel, and what becomes of its word.
+pub record Hit : Type 0 where
+  pub x : ℕ
+  pub y : ℕ
+  pub ink : ℕ → ℕ
+
+abbrev pub hit : (ℕ → ℕ) → ℕ → ℕ → Hit
+hit f x y = record { x = x; y = y; ink = f }
+
+abbrev pub hitOf : Plot → Hit
+hitOf p = hit (p .ink) (natAbs (p .x)) (natAbs (p .y))
+
+abbrev pub keep : Fate → Hit → List Hit → List Hit
+keep landed h hs = h ∷ hs
+keep outside h hs = hs
+keep clipped h hs = hs
+
+-- "plots that land on the canvas and inside the clip", in order
+unfoldable pub hits : Canvas → Clip → List Plot → List Hit
+hits v c [] = []
+hits v c (p ∷ ps) = keep (fate v c p) (hitOf p) (hits v c ps)
+
+-- The bytes after one hit, and after some in order.
+unfoldable pub touch : Canvas → List ℕ → Hit → List ℕ
+touch v b h = storeAt v b (h .x) (h .y) (h .ink (loadAt v b (h .x) (h .y)))
+
+unfoldable pub paint : Canvas → List Hit → List ℕ → List ℕ
+paint v [] b = b
+paint v (h ∷ hs) b = paint v hs (touch v b h)

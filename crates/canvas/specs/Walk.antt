@@ -1,0 +1,73 @@
+-- What the contracts of the inner functions speak of; no public contract cites this file.
+use mathlib.Core.Path.{_≡_}
+use mathlib.Core.List.{List, [], _∷_}
+use Prim.Native.Nat.{ℕ, zero, suc, _+_, _-_, _<_, _≤_}
+use lib.IntN.{ℤ, pos, negsuc, subℕ}
+use lib.ListN.{length}
+use Rattle.canvas.specs.declared.Canvas.{Canvas}
+use Rattle.canvas.specs.declared.Clip.{Clip}
+use Rattle.canvas.specs.declared.Tally.{Tally}
+use Rattle.canvas.specs.Bytes.{extent}
+use Rattle.canvas.specs.Faults.{Sized}
+use Rattle.canvas.specs.Boxes.{each}
+use Rattle.canvas.specs.Plot.{Plot, plot, Fate, landed, outside, clipped, fate, hitOf, touch}
+
+-- A signed number of 32 bits as one that is not negative, 2^31 above it; and back.
+unfoldable pub lifted : ℤ → ℕ
+lifted (pos n) = 2147483648 + n
+lifted (negsuc n) = 2147483647 - n
+
+unfoldable pub lowered : ℕ → ℤ
+lowered p = subℕ p 2147483648
+
+-- The n numbers from i on.
+unfoldable pub run : ℕ → ℕ → List ℕ
+run i zero = []
+run i (suc n) = i ∷ run (suc i) n
+
+-- The tally with one plot more.
+abbrev pub note : Fate → Tally → Tally
+note landed t = record { landed = t .landed + 1 }
+note outside t = t
+note clipped t = t
+
+-- What a walk works on: the lent bytes, and the tally so far.
+pub record Work : Type 0 where
+  pub bytes : List ℕ
+  pub tally : Tally
+
+abbrev pub work : List ℕ → Tally → Work
+work b t = record { bytes = b; tally = t }
+
+-- One plot of this fate, and plots one after the other.
+abbrev pub act : Canvas → Plot → Fate → Work → Work
+act v p landed w = work (touch v (w .bytes) (hitOf p)) (note landed (w .tally))
+act v p outside w = work (w .bytes) (note outside (w .tally))
+act v p clipped w = work (w .bytes) (note clipped (w .tally))
+
+unfoldable pub drawn : Canvas → Clip → List Plot → Work → Work
+drawn v c [] w = w
+drawn v c (p ∷ ps) w = drawn v c ps (act v p (fate v c p) w)
+
+-- The largest count that the tally may reach.
+abbrev pub Fits : Tally → Type 0
+Fits t = t .landed < 18446744073709551616
+
+-- What a function may count on before these plots: a canvas that is not refused, and a tally that fits at the end.
+pub record Ready (v : Canvas) (c : Clip) (ps : List Plot) (w : Work) : Type 0 where
+  pub sized : Sized v (w .bytes)
+  pub room : Fits (drawn v c ps w .tally)
+
+-- The plots were made.
+pub record Did (v : Canvas) (c : Clip) (ps : List Plot) (w w′ : Work) : Type 0 where
+  pub same : w′ ≡ drawn v c ps w
+
+-- The plots of a part of a row, and of a box.
+unfoldable pub point : (ℕ → ℕ) → ℕ → ℕ → List Plot
+point f y x = plot f (pos x) (pos y) ∷ []
+
+abbrev pub row : (ℕ → ℕ) → List ℕ → ℕ → List Plot
+row f xs y = each (point f y) xs
+
+abbrev pub box : (ℕ → ℕ) → List ℕ → List ℕ → List Plot
+box f xs ys = each (row f xs) ys

@@ -1,0 +1,124 @@
+// How a canvas's bytes hold the words of its pixels.
+ghost use mathlib.Core.Path.{_≡_};
+ghost use Prim.Native.Nat.{_+_, _*_, _≤_, _<_};
+ghost use lib.ListN.{length};
+ghost use Rattle.words.specs.Format.{range};
+ghost use Rattle.words.specs.Ink.{inked};
+ghost use Rattle.canvas.specs.Bytes.{load, store, cells, form, size, extent, loadAt, storeAt, On};
+ghost use Rattle.canvas.specs.Faults.{Sized};
+ghost use Rattle.canvas.specs.Plot.{hit, touch};
+use crate::Canvas;
+use words::Ink;
+
+fn wide(x: u8) -> u32
+    ensures { λ r. ⌜ (r ≡ x) × (r < 256) ⌝ }
+{
+    x as u32
+}
+
+// The words of one, two and four bytes at an offset.
+fn word1(b: &[u8], o: usize) -> u32
+    requires { ⌜ o + 1 ≤ length (now b) ⌝ }
+    ensures { λ r. ⌜ (r ≡ load (cells 1 o) (now (b .entry))) × (r < 256) ⌝ }
+{
+    wide(b[o])
+}
+
+fn word2(b: &[u8], o: usize) -> u32
+    requires { ⌜ o + 2 ≤ length (now b) ⌝ }
+    ensures { λ r. ⌜ (r ≡ load (cells 2 o) (now (b .entry))) × (r < 65536) ⌝ }
+{
+    wide(b[o]) + 256 * wide(b[o + 1])
+}
+
+fn word4(b: &[u8], o: usize) -> u32
+    requires { ⌜ o + 4 ≤ length (now b) ⌝ }
+    ensures { λ r. ⌜ (r ≡ load (cells 4 o) (now (b .entry))) × (r < 4294967296) ⌝ }
+{
+    word2(b, o) + 65536 * word2(b, o + 2)
+}
+
+fn put1(b: &mut [u8], o: usize, w: u32)
+    requires { ⌜ o + 1 ≤ length (now b) ⌝ }
+    ensures { λ _. ⌜ now (b .exit) ≡ store (cells 1 o) (now (b .entry)) w ⌝ }
+{
+    b[o] = (w % 256) as u8;
+}
+
+fn put2(b: &mut [u8], o: usize, w: u32)
+    requires { ⌜ o + 2 ≤ length (now b) ⌝ }
+    ensures { λ _. ⌜ now (b .exit) ≡ store (cells 2 o) (now (b .entry)) w ⌝ }
+{
+    let w1 = w / 256;
+    b[o] = (w % 256) as u8;
+    b[o + 1] = (w1 % 256) as u8;
+}
+
+fn put4(b: &mut [u8], o: usize, w: u32)
+    requires { ⌜ o + 4 ≤ length (now b) ⌝ }
+    ensures { λ _. ⌜ now (b .exit) ≡ store (cells 4 o) (now (b .entry)) w ⌝ }
+{
+    let w1 = w / 256;
+    let w2 = w1 / 256;
+    let w3 = w2 / 256;
+    b[o] = (w % 256) as u8;
+    b[o + 1] = (w1 % 256) as u8;
+    b[o + 2] = (w2 % 256) as u8;
+    b[o + 3] = (w3 % 256) as u8;
+}
+
+// The bytes of a canvas.
+pub(crate) fn extent_of(canvas: Canvas) -> usize
+    requires { ⌜ (canvas .width ≤ 32767) × (canvas .height ≤ 32767) ⌝ }
+    ensures { λ r. ⌜ r ≡ extent canvas ⌝ }
+{
+    let area = canvas.height as usize * canvas.width as usize;
+    area * words::bytes_per_pixel(canvas.format)
+}
+
+// Where a pixel's bytes start.
+fn offset(canvas: Canvas, x: usize, y: usize) -> usize
+    requires { ⌜ (On canvas x y) × ((canvas .width ≤ 32767) × (canvas .height ≤ 32767)) ⌝ }
+    ensures { λ r. ⌜ r ≡ (y * canvas .width + x) * size canvas ⌝ }
+{
+    let w = canvas.width as usize;
+    let k = y * w + x;
+    k * words::bytes_per_pixel(canvas.format)
+}
+
+// The word of a pixel.
+pub(crate) fn load_at(canvas: Canvas, b: &[u8], x: usize, y: usize) -> u32
+    requires { ⌜ (Sized canvas (now b)) × (On canvas x y) ⌝ }
+    ensures { λ r. ⌜ (r ≡ loadAt canvas (now (b .entry)) x y) × (r < range (form canvas)) ⌝ }
+{
+    let o = offset(canvas, x, y);
+    let f = canvas.format;
+    match f {
+        0 => word1(b, o),
+        1 => word2(b, o),
+        _ => word4(b, o),
+    }
+}
+
+// The word of a pixel, inked.
+pub(crate) fn touch_at(canvas: Canvas, b: &mut [u8], x: usize, y: usize, ink: Ink)
+    requires { ⌜ (Sized canvas (now b)) × (On canvas x y) ⌝ }
+    ensures { λ _. ⌜ now (b .exit) ≡ touch canvas (now (b .entry)) (hit (inked ink) x y) ⌝ }
+{
+    let o = offset(canvas, x, y);
+    let f = canvas.format;
+    match f {
+        0 => {
+            let w = ink.on(word1(b, o));
+            put1(b, o, w);
+        }
+        1 => {
+            let w = ink.on(word2(b, o));
+            put2(b, o, w);
+        }
+        _ => {
+            let w = ink.on(word4(b, o));
+            put4(b, o, w);
+        }
+    }
+}

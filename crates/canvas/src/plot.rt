@@ -1,0 +1,97 @@
+// Plots: the landing of a point, and the call of one plot.
+ghost use mathlib.Core.Path.{_≡_};
+ghost use mathlib.Core.List.{[], _∷_};
+ghost use Prim.Native.Nat.{_<_};
+ghost use Rattle.words.specs.Ink.{inked};
+ghost use Rattle.canvas.specs.Plot.{plot, landed};
+ghost use Rattle.canvas.specs.Call.{putPixel, leaves, call};
+ghost use Rattle.canvas.specs.Walk.{lowered, note, work, point, Fits, Ready, Did};
+use crate::Canvas;
+use crate::Clip;
+use crate::Drawn;
+use crate::Tally;
+use crate::faults::Verdict;
+use words::Color;
+use words::Ink;
+
+// A plot more that landed.
+fn landed_one(t: Tally) -> Tally
+    requires { ⌜ Fits (note landed t) ⌝ }
+    ensures { λ r. ⌜ r ≡ note landed t ⌝ }
+{
+    Tally {
+        landed: t.landed + 1,
+    }
+}
+
+// A plot at a point of the canvas.
+pub(crate) fn plot_in(
+    canvas: Canvas,
+    b: &mut [u8],
+    x: usize,
+    y: usize,
+    ink: Ink,
+    clip: Clip,
+    t: Tally,
+) -> Tally
+    requires { ⌜ (Ready canvas clip (point (inked ink) y x) (work (now b) t)) × ((x < canvas .width) × (y < canvas .height)) ⌝ }
+    ensures { λ r. ⌜ Did canvas clip (point (inked ink) y x) (work (now (b .entry)) t) (work (now (b .exit)) r) ⌝ }
+{
+    if !crate::span::in_clip(clip, x, y) {
+        return t;
+    }
+    crate::bytes::touch_at(canvas, b, x, y, ink);
+    landed_one(t)
+}
+
+// A plot at a lifted point.
+pub(crate) fn plot_at(
+    canvas: Canvas,
+    b: &mut [u8],
+    p: u64,
+    q: u64,
+    ink: Ink,
+    clip: Clip,
+    t: Tally,
+) -> Tally
+    requires { ⌜ Ready canvas clip (plot (inked ink) (lowered p) (lowered q) ∷ []) (work (now b) t) ⌝ }
+    ensures { λ r. ⌜ Did canvas clip (plot (inked ink) (lowered p) (lowered q) ∷ []) (work (now (b .entry)) t) (work (now (b .exit)) r) ⌝ }
+{
+    if p < 2147483648 {
+        return t;
+    }
+    if q < 2147483648 {
+        return t;
+    }
+    let px = p - 2147483648;
+    let py = q - 2147483648;
+    if canvas.width as u64 <= px {
+        return t;
+    }
+    if canvas.height as u64 <= py {
+        return t;
+    }
+    plot_in(canvas, b, px as usize, py as usize, ink, clip, t)
+}
+
+// One plot, anywhere.
+pub fn put_pixel(
+    canvas: Canvas,
+    bytes: &mut [u8],
+    x: i32,
+    y: i32,
+    color: Color,
+    clip: Clip,
+) -> Drawn
+    ensures { λ r. ⌜ leaves r (now (bytes .exit)) ≡ call canvas (putPixel x y color clip) (now (bytes .entry)) ⌝ }
+{
+    let s = crate::faults::judge(canvas, bytes.len());
+    if let Verdict::Faulty(r) = s {
+        return Drawn::Refused(r);
+    }
+    let ink = words::plot_ink(canvas.format, canvas.xor, color);
+    let p = crate::span::lift(x);
+    let q = crate::span::lift(y);
+    let t = plot_at(canvas, bytes, p, q, ink, clip, Tally { landed: 0 });
+    Drawn::Done(t)
+}

@@ -1,0 +1,112 @@
+// Spans and clips: signed corners become numbers that are not negative at the door.
+ghost use mathlib.Core.Path.{_≡_};
+ghost use Prim.Native.Nat.{_+_, _-_, _≤_, _<_, min, max};
+ghost use lib.IntN.{pos};
+ghost use Rattle.canvas.specs.Clip.{within, inClip, larger, shared};
+ghost use Rattle.canvas.specs.Boxes.{side};
+ghost use Rattle.canvas.specs.Walk.{lifted, run};
+use crate::Clip;
+
+// A signed number as one that is not negative, 2^31 above it.
+pub(crate) fn lift(x: i32) -> u64
+    ensures { λ r. ⌜ r ≡ lifted x ⌝ }
+{
+    (x as i64 + 2147483648) as u64
+}
+
+// What is above the zero of a lifted number.
+fn above(u: u64) -> u64
+    ensures { λ r. ⌜ r ≡ u - 2147483648 ⌝ }
+{
+    if u < 2147483648 {
+        return 0;
+    }
+    u - 2147483648
+}
+
+fn least(a: u64, b: u64) -> u64
+    ensures { λ r. ⌜ r ≡ min a b ⌝ }
+{
+    if a < b {
+        return a;
+    }
+    b
+}
+
+fn most(a: u64, b: u64) -> u64
+    ensures { λ r. ⌜ r ≡ max a b ⌝ }
+{
+    if a < b {
+        return b;
+    }
+    a
+}
+
+// Whether p is one of the n numbers from a on.
+fn in_span(a: i32, n: u32, p: usize) -> bool
+    requires { ⌜ p < 32768 ⌝ }
+    ensures { λ r. ⌜ r ≡ within a n (pos p) ⌝ }
+{
+    let u = lift(a);
+    let q = 2147483648 + p as u64;
+    if q < u {
+        return false;
+    }
+    q < u + n as u64
+}
+
+// Whether a point of the canvas is inside the clip.
+pub(crate) fn in_clip(clip: Clip, x: usize, y: usize) -> bool
+    requires { ⌜ (x < 32768) × (y < 32768) ⌝ }
+    ensures { λ r. ⌜ r ≡ inClip clip (pos x) (pos y) ⌝ }
+{
+    if in_span(clip.x, clip.width, x) {
+        return in_span(clip.y, clip.height, y);
+    }
+    false
+}
+
+// Columns or rows of the canvas, from one up to but not including another.
+pub(crate) struct Span {
+    pub(crate) from: usize,
+    pub(crate) to: usize,
+}
+
+// The part of a canvas's side of n pixels that lies in the span of len from a.
+pub(crate) fn clamp_span(a: i32, len: u32, n: u32) -> Span
+    requires { ⌜ n ≤ 32767 ⌝ }
+    ensures { λ r. ⌜ (r .to ≤ n) × (run (r .from) (r .to - r .from) ≡ side a len n) ⌝ }
+{
+    let u = lift(a);
+    let e = u + len as u64;
+    let from = above(u);
+    let end = above(e);
+    let to = least(end, n as u64);
+    Span {
+        from: from as usize,
+        to: to as usize,
+    }
+}
+
+pub(crate) fn larger_of(a: i32, b: i32) -> i32
+    ensures { λ r. ⌜ r ≡ larger a b ⌝ }
+{
+    if a <= b {
+        return b;
+    }
+    a
+}
+
+// How far two spans go on together, from the larger start.
+pub(crate) fn shared_by(a: i32, m: u32, b: i32, n: u32) -> u32
+    ensures { λ r. ⌜ r ≡ shared a m b n ⌝ }
+{
+    let u = lift(a);
+    let v = lift(b);
+    let end = least(u + m as u64, v + n as u64);
+    let start = most(u, v);
+    if end < start {
+        return 0;
+    }
+    (end - start) as u32
+}

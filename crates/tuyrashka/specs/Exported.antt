@@ -1,0 +1,36 @@
+-- How C's numbers name a canvas, a clip and a colour, and how an answer reads in them.
+use mathlib.Core.Bool.{Bool}
+use Prim.Native.Nat.{ℕ}
+use lib.IntN.{ℤ}
+use Rattle.words.specs.declared.Color.{Color}
+use Rattle.words.specs.Format.{argb}
+use Rattle.words.specs.Word.{fromColor, toColor}
+use Rattle.canvas.specs.declared.Canvas.{Canvas}
+use Rattle.canvas.specs.declared.Clip.{Clip}
+use Rattle.canvas.specs.Look.{Seen, nothing, seen, Reading}
+
+abbrev pub canvas : ℕ → ℕ → ℕ → Bool → Canvas
+canvas f w h x = record { format = f; width = w; height = h; xor = x }
+
+abbrev pub clip : ℤ → ℤ → ℕ → ℕ → Clip
+clip x y w h = record { x = x; y = y; width = w; height = h }
+
+-- A colour is a word of the format ARGB.
+abbrev pub color : ℕ → Color
+color w = toColor argb w
+
+-- 1 and the colour's word, or 0 and 0.
+pub record Told : Type 0 where
+  pub status : ℕ
+  pub found : ℕ
+  pub argb : ℕ
+
+abbrev pub told : ℕ → ℕ → ℕ → Told
+told s f w = record { status = s; found = f; argb = w }
+
+abbrev pub tell : ℕ → Seen → Told
+tell s nothing = told s 0 0
+tell s (seen c) = told s 1 (fromColor argb c)
+
+unfoldable pub tells : Reading → Told
+tells r = tell (r .status) (r .color)

@@ -1,0 +1,98 @@
+// What C and Rust link: the calls on numbers and slices, declared in include/tuyrashka.h.
+ghost use mathlib.Core.Path.{_≡_};
+ghost use Rattle.canvas.specs.Call.{putPixel, fillRect, outcome, call};
+ghost use Rattle.canvas.specs.Look.{pixelAt};
+ghost use Rattle.tuyrashka.specs.Exported.{canvas, clip, color, told, tells};
+
+use canvas::Canvas;
+use canvas::Clip;
+use canvas::Pixel;
+
+#[no_mangle]
+pub extern "C" fn tuyrashka_put_pixel(
+    format: u32,
+    width: u32,
+    height: u32,
+    xor: bool,
+    bytes: &mut [u8],
+    x: i32,
+    y: i32,
+    argb: u32,
+    cx: i32,
+    cy: i32,
+    cw: u32,
+    ch: u32,
+    count: &mut u64,
+) -> u32
+    ensures { λ r. ⌜ outcome r (now (count .exit)) (now (bytes .exit)) ≡ call (canvas format width height xor) (putPixel x y (color argb) (clip cx cy cw ch)) (now (bytes .entry)) ⌝ }
+{
+    let v = Canvas { format: format, width: width, height: height, xor: xor };
+    let c = Clip { x: cx, y: cy, width: cw, height: ch };
+    let k = words::to_color(3, argb);
+    let d = canvas::put_pixel(v, bytes, x, y, k, c);
+    *count = d.count();
+    d.status()
+}
+
+#[no_mangle]
+pub extern "C" fn tuyrashka_fill_rect(
+    format: u32,
+    width: u32,
+    height: u32,
+    xor: bool,
+    bytes: &mut [u8],
+    x: i32,
+    y: i32,
+    w: u32,
+    h: u32,
+    argb: u32,
+    cx: i32,
+    cy: i32,
+    cw: u32,
+    ch: u32,
+    count: &mut u64,
+) -> u32
+    ensures { λ r. ⌜ outcome r (now (count .exit)) (now (bytes .exit)) ≡ call (canvas format width height xor) (fillRect x y w h (color argb) (clip cx cy cw ch)) (now (bytes .entry)) ⌝ }
+{
+    let v = Canvas { format: format, width: width, height: height, xor: xor };
+    let c = Clip { x: cx, y: cy, width: cw, height: ch };
+    let k = words::to_color(3, argb);
+    let d = canvas::fill_rect(v, bytes, x, y, w, h, k, c);
+    *count = d.count();
+    d.status()
+}
+
+#[no_mangle]
+pub extern "C" fn tuyrashka_get_pixel(
+    format: u32,
+    width: u32,
+    height: u32,
+    xor: bool,
+    bytes: &[u8],
+    x: i32,
+    y: i32,
+    found: &mut u32,
+    argb: &mut u32,
+) -> u32
+    ensures { λ r. ⌜ told r (now (found .exit)) (now (argb .exit)) ≡ tells (pixelAt (canvas format width height xor) (now (bytes .entry)) x y) ⌝ }
+{
+    let v = Canvas { format: format, width: width, height: height, xor: xor };
+    let p = canvas::get_pixel(v, bytes, x, y);
+    match p {
+        Pixel::Refused(r) => {
+            *found = 0;
+            *argb = 0;
+            r.number()
+        }
+        Pixel::Nothing => {
+            *found = 0;
+            *argb = 0;
+            0
+        }
+        Pixel::Of(c) => {
+            *found = 1;
+            *argb = words::from_color(3, c);
+            0
+        }
+    }
+}

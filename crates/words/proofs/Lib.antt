@@ -1,0 +1,6 @@
+pub mod Determined
+pub mod Formats
+pub mod Laws
+pub mod Reading
+pub mod Table
+pub mod Xor

@@ -1,0 +1,25 @@
+-- `words::color_abgr` meets its contract, which says the same.
+use mathlib.Core.Path.{refl}
+use borrow.Author.Needs.{needs}
+use Rattle.words.specs.Word.{toColor}
+use Rattle.words.proofs.color_abgr.Statement.{statement}
+use Rattle.words.proofs.color_abgr.Tie as tie
+
+cast-a : tie.Need-cast-a
+cast-a c = search needs
+
+cast-b : tie.Need-cast-b
+cast-b c = search needs
+
+cast-g : tie.Need-cast-g
+cast-g c = search needs
+
+cast-r : tie.Need-cast-r
+cast-r c = search needs
+
+returns : tie.Need-returns
+unfolding toColor
+returns c = refl
+
+pub color-abgr-spec : {M : Type 1} → statement M
+color-abgr-spec = tie.close (tie.spec cast-a cast-b cast-g cast-r returns)

@@ -1,0 +1,4 @@
+pub mod Format
+pub mod Word
+pub mod Table
+pub mod Ink

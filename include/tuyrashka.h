@@ -1,0 +1,44 @@
+/* The canvas calls of libtuyrashka.a.
+ *
+ * A canvas is a format number, its sides, the XOR switch and lent bytes: width times height pixels in rows, each
+ * little-endian. Formats: 0 RGB332 (1 byte), 1 RGB565 (2), 2 RGB8, 3 ARGB, 4 ABGR (4 each).
+ *
+ * Each call returns 0, or 1 FORMAT (above 4), 2 SIZE (a side above 32,767), 3 LENGTH (data_len is not the exact byte
+ * size), the lowest that holds; the bytes then stay as they were and *count is 0. A colour is a<<24 | r<<16 | g<<8 | b.
+ * No pointer is null, also where data_len is 0, and what they point to does not overlap.
+ */
+#ifndef TUYRASHKA_H
+#define TUYRASHKA_H
+
+#include <stdbool.h>
+#include <stddef.h>
+#include <stdint.h>
+
+#ifdef __cplusplus
+extern "C" {
+#endif
+
+/* Fills the part of the box that is on the canvas and inside the clip; *count is its number of pixels. */
+uint32_t tuyrashka_fill_rect(uint32_t format, uint32_t width, uint32_t height, bool xor_mode,
+                             uint8_t *data, size_t data_len,
+                             int32_t x, int32_t y, uint32_t w, uint32_t h, uint32_t argb,
+                             int32_t clip_x, int32_t clip_y, uint32_t clip_w, uint32_t clip_h,
+                             uint64_t *count);
+
+/* Plots one point; *count is 1 if it is on the canvas and inside the clip, else 0. */
+uint32_t tuyrashka_put_pixel(uint32_t format, uint32_t width, uint32_t height, bool xor_mode,
+                             uint8_t *data, size_t data_len,
+                             int32_t x, int32_t y, uint32_t argb,
+                             int32_t clip_x, int32_t clip_y, uint32_t clip_w, uint32_t clip_h,
+                             uint64_t *count);
+
+/* Reads one point: *found is 1 and *argb its colour, or both are 0 off the canvas and where the call is refused. */
+uint32_t tuyrashka_get_pixel(uint32_t format, uint32_t width, uint32_t height, bool xor_mode,
+                             const uint8_t *data, size_t data_len,
+                             int32_t x, int32_t y, uint32_t *found, uint32_t *argb);
+
+#ifdef __cplusplus
+}
+#endif
+
+#endif

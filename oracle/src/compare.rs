@@ -1,0 +1,95 @@
+//! The port and the Rust on the same lines.
+
+use std::io::{BufRead, BufReader, BufWriter, Write};
+use std::process::{Child, Command, Stdio};
+use std::thread;
+
+use crate::random::Cases;
+
+/// Differences printed in full; the rest are only counted.
+const SHOWN: u64 = 20;
+
+/// Whether an answer of the port may differ from the Rust's, by docs/DIFFERENCES.md.
+/// Nothing may today. The rules for strokes and pies belong here: they need the case, and the Rust's points before rounding.
+fn permitted(_case: &str, _ours: &str, _rust: &str) -> bool {
+    false
+}
+
+struct Side {
+    name: &'static str,
+    child: Child,
+    lines: Box<dyn Iterator<Item = std::io::Result<String>>>,
+}
+
+impl Side {
+    /// Starts the program and feeds it the cases.
+    fn start(name: &'static str, program: &str, cases: Cases) -> Side {
+        let mut child = Command::new(program)
+            .stdin(Stdio::piped())
+            .stdout(Stdio::piped())
+            .spawn()
+            .unwrap_or_else(|error| panic!("{program} does not start: {error}"));
+        let mut input = BufWriter::new(child.stdin.take().unwrap());
+        // A program that ends early is seen by its missing lines.
+        thread::spawn(move || cases.into_iter().try_for_each(|case| writeln!(input, "{case}")));
+        let lines = Box::new(BufReader::new(child.stdout.take().unwrap()).lines());
+        Side { name, child, lines }
+    }
+
+    fn answer(&mut self) -> String {
+        match self.lines.next() {
+            Some(Ok(line)) => line,
+            Some(Err(error)) => format!("(unreadable: {error})"),
+            None => "(no line)".into(),
+        }
+    }
+}
+
+/// Runs the port and the two builds of the Rust; whether they agree.
+pub fn compare(n: u64, seed: u64, ops: &[&'static str], [ours, checked, unchecked]: [&str; 3]) -> bool {
+    let cases = || Cases::new(n, seed, ops);
+    let mut ours = Side::start("ours", ours, cases());
+    let mut rust = [Side::start("Rust with overflow checks", checked, cases()), Side::start("Rust without", unchecked, cases())];
+    let (mut landed, mut refused, mut unread, mut differences, mut allowed) = (0, 0, 0, 0, 0);
+    for case in cases() {
+        let answer = ours.answer();
+        let answers = [rust[0].answer(), rust[1].answer()];
+        let accepted = answers[0].contains(" status=0 ");
+        unread += (answers[0] == "bad") as u64;
+        refused += (!accepted && answers[0].contains(" status=")) as u64;
+        landed += (accepted && !answers[0].contains(" count=0 ") && !answers[0].contains(" none ")) as u64;
+        if answers.iter().all(|a| *a == answer) {
+            continue;
+        }
+        if answers.iter().all(|a| *a == answer || permitted(&case, &answer, a)) {
+            allowed += 1;
+            continue;
+        }
+        differences += 1;
+        if differences <= SHOWN {
+            println!("case: {case}\n  {}: {answer}", ours.name);
+            rust.iter().zip(&answers).for_each(|(side, a)| println!("  {}: {a}", side.name));
+        }
+    }
+    let ended = [&mut ours].into_iter().chain(&mut rust).fold(true, |well, side| ended_well(side) && well);
+    println!(
+        "compared {n} cases of {} (seed {seed}): {landed} landed or found something, {refused} refused, {unread} unreadable; \
+         {differences} differences, {allowed} permitted",
+        ops.join(",")
+    );
+    differences == 0 && ended
+}
+
+/// No line too many, and no failure.
+fn ended_well(side: &mut Side) -> bool {
+    let more = side.lines.next().is_some();
+    if more {
+        println!("{}: more lines than cases", side.name);
+    }
+    side.lines = Box::new(std::iter::empty());
+    let status = side.child.wait().unwrap();
+    if !status.success() {
+        println!("{}: ended with {status}", side.name);
+    }
+    !more && status.success()
+}
