@@ -1,0 +1,53 @@
+-- By the answer's three cases.
+use mathlib.Core.Path.{refl}
+use Rattle.words.specs.Format.{formatOf}
+use Rattle.canvas.specs.Look.{statusOf, seenOf}
+use Rattle.tuyrashka.specs.Exported.{canvas, told, tells}
+use Rattle.tuyrashka.proofs.Answers.{shows}
+use borrow.Author.Needs.{needs}
+use Rattle.tuyrashka.proofs.tuyrashka_get_pixel.Statement.{statement}
+use Rattle.tuyrashka.proofs.tuyrashka_get_pixel.Tie as tie
+
+get-pixel-requires : tie.Need-get-pixel-requires
+get-pixel-requires c κs = search needs
+
+enum-known-p : tie.Need-enum-known-p
+enum-known-p c = search needs
+
+number-requires : tie.Need-number-requires
+number-requires c κs = search needs
+
+enum-told : tie.Need-enum-told
+enum-told c = search needs
+
+enum-known-p-2 : tie.Need-enum-known-p-2
+enum-known-p-2 c = search needs
+
+from-color-requires : tie.Need-from-color-requires
+from-color-requires c κs = search needs
+
+returns : tie.Need-returns
+unfolding statusOf seenOf tells
+returns c = shows (canvas (c .before .before .before .before .before .before .args .format) (c .before .before .before .before .before .before .args .width) (c .before .before .before .before .before .before .args .height) (c .before .before .before .before .before .before .args .xor)) (c .before .before .before .before .before .before .args .bytes .now) (c .before .before .before .before .before .before .args .x) (c .before .before .before .before .before .before .args .y) (c .before .before .before .before .get-pixel .result) (told (c .number .result) 0 0) (c .before .before .before .before .before .before .fits .x) (c .before .before .before .before .before .before .fits .y) (rw (c .before .before .p .given .1, c .number .ensures) refl) (c .before .before .before .before .get-pixel .ensures)
+
+returns-2 : tie.Need-returns-2
+unfolding statusOf seenOf tells
+returns-2 c = shows (canvas (c .before .before .before .before .args .format) (c .before .before .before .before .args .width) (c .before .before .before .before .args .height) (c .before .before .before .before .args .xor)) (c .before .before .before .before .args .bytes .now) (c .before .before .before .before .args .x) (c .before .before .before .before .args .y) (c .before .before .get-pixel .result) (told 0 0 0) (c .before .before .before .before .fits .x) (c .before .before .before .before .fits .y) (rw (c .enum-told .given .1) refl) (c .before .before .get-pixel .ensures)
+
+returns-3 : tie.Need-returns-3
+unfolding statusOf seenOf tells formatOf
+returns-3 c = shows (canvas (c .before .before .before .before .before .before .args .format) (c .before .before .before .before .before .before .args .width) (c .before .before .before .before .before .before .args .height) (c .before .before .before .before .before .before .args .xor)) (c .before .before .before .before .before .before .args .bytes .now) (c .before .before .before .before .before .before .args .x) (c .before .before .before .before .before .before .args .y) (c .before .before .before .before .get-pixel .result) (told 0 1 (c .from-color .result)) (c .before .before .before .before .before .before .fits .x) (c .before .before .before .before .before .before .fits .y) (rw (c .before .before .p2 .given .1, c .from-color .ensures) refl) (c .before .before .before .before .get-pixel .ensures)
+
+pub tuyrashka-get-pixel-spec : {M : Type 1} → statement M
+tuyrashka-get-pixel-spec =
+    tie.close
+    (tie.spec
+    get-pixel-requires
+    enum-known-p
+    number-requires
+    enum-told
+    enum-known-p-2
+    from-color-requires
+    returns
+    returns-2
+    returns-3)

@@ -1,0 +1,36 @@
+-- The call of the canvas, its answer read in numbers.
+use Rattle.canvas.specs.Call.{putPixel}
+use Rattle.tuyrashka.specs.Exported.{canvas}
+use Rattle.tuyrashka.proofs.Answers.{exports}
+use borrow.Author.Needs.{needs}
+use Rattle.tuyrashka.proofs.tuyrashka_put_pixel.Statement.{statement}
+use Rattle.tuyrashka.proofs.tuyrashka_put_pixel.Tie as tie
+
+to-color-requires : tie.Need-to-color-requires
+to-color-requires c κs = search needs
+
+put-pixel-requires : tie.Need-put-pixel-requires
+put-pixel-requires c κs = search needs
+
+count-requires : tie.Need-count-requires
+count-requires c κs = search needs
+
+status-requires : tie.Need-status-requires
+status-requires c κs = search needs
+
+same-length : tie.Need-same-length
+same-length c = search needs
+
+returns : tie.Need-returns
+returns c = exports (canvas (c .before .before .before .before .before .before .before .before .args .format) (c .before .before .before .before .before .before .before .before .args .width) (c .before .before .before .before .before .before .before .before .args .height) (c .before .before .before .before .before .before .before .before .args .xor)) (c .before .before .before .before .before .before .before .before .args .bytes .now) (c .before .before .before .before .put-pixel .last .1 .0) (λ x y k z. putPixel x y k z) (c .before .before .before .before .before .before .before .before .args .x) (c .before .before .before .before .before .before .before .before .args .y) (c .before .before .before .before .before .before .before .before .args .cx) (c .before .before .before .before .before .before .before .before .args .cy) (c .before .before .before .before .before .before .before .before .args .cw) (c .before .before .before .before .before .before .before .before .args .ch) (c .before .before .before .before .before .before .before .before .args .argb) _ _ _ _ (c .before .before .before .before .before .before .before .before .fits .x) (c .before .before .before .before .before .before .before .before .fits .y) (c .before .before .before .before .before .before .before .before .fits .cx) (c .before .before .before .before .before .before .before .before .fits .cy) (c .before .before .before .before .before .before .to-color .ensures) (c .status .ensures) (c .before .count .ensures) (c .before .before .before .before .put-pixel .ensures)
+
+pub tuyrashka-put-pixel-spec : {M : Type 1} → statement M
+tuyrashka-put-pixel-spec =
+    tie.close
+    (tie.spec
+    to-color-requires
+    put-pixel-requires
+    count-requires
+    status-requires
+    same-length
+    returns)
