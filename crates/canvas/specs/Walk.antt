@@ -4,12 +4,14 @@ use mathlib.Core.List.{List, [], _∷_}
 use Prim.Native.Nat.{ℕ, zero, suc, _+_, _-_, _<_, _≤_}
 use lib.IntN.{ℤ, pos, negsuc, subℕ}
 use lib.ListN.{length}
+use lib.Dec.{leb, ltb}
 use Rattle.canvas.specs.declared.Canvas.{Canvas}
 use Rattle.canvas.specs.declared.Clip.{Clip}
 use Rattle.canvas.specs.declared.Tally.{Tally}
 use Rattle.canvas.specs.Bytes.{extent}
 use Rattle.canvas.specs.Faults.{Sized}
-use Rattle.canvas.specs.Boxes.{each}
+use Rattle.canvas.specs.Clip.{both, within, inClip}
+use Rattle.canvas.specs.Boxes.{side, each}
 use Rattle.canvas.specs.Plot.{Plot, plot, Fate, landed, outside, clipped, fate, hitOf, touch}
 
 -- A signed number of 32 bits as one that is not negative, 2^31 above it; and back.
@@ -24,6 +26,19 @@ lowered p = subℕ p 2147483648
 unfoldable pub run : ℕ → ℕ → List ℕ
 run i zero = []
 run i (suc n) = i ∷ run (suc i) n
+
+-- What `clamp_span` answers: the part of a side of n pixels that lies in the span of len from a.
+pub record Clamped (a : ℤ) (len n from to : ℕ) : Type 0 where
+  pub low : from ≤ 2147483648
+  pub held : to ≤ n
+  pub same : run from (to - from) ≡ side a len n
+  pub among : (x : ℕ) → x < n → both (leb from x) (ltb x to) ≡ within a len (pos x)
+
+-- The columns of row y of the canvas that are inside the clip: n of them from one on.
+pub record Inner (v : Canvas) (c : Clip) (y from n : ℕ) : Type 0 where
+  pub low : from ≤ 2147483648
+  pub few : n ≤ 32767
+  pub inner : (x : ℕ) → x < v .width → both (leb from x) (ltb x (from + n)) ≡ inClip c (pos x) (pos y)
 
 -- The tally with one plot more.
 abbrev pub note : Fate → Tally → Tally

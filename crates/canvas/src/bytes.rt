@@ -1,5 +1,6 @@
 // How a canvas's bytes hold the words of its pixels.
 ghost use mathlib.Core.Path.{_≡_};
+ghost use mathlib.Core.Bool.{cond};
 ghost use Prim.Native.Nat.{_+_, _*_, _≤_, _<_};
 ghost use lib.ListN.{length};
 ghost use Rattle.words.specs.Format.{range};
@@ -16,7 +17,7 @@ fn wide(x: u8) -> u32
     x as u32
 }
 
-// The words of one, two and four bytes at an offset.
+// The words of one, two and four bytes at an offset. Each is one sum, which the compiler reads as one load.
 fn word1(b: &[u8], o: usize) -> u32
     requires { ⌜ o + 1 ≤ length (now b) ⌝ }
     ensures { λ r. ⌜ (r ≡ load (cells 1 o) (now (b .entry))) × (r < 256) ⌝ }
@@ -35,7 +36,7 @@ fn word4(b: &[u8], o: usize) -> u32
     requires { ⌜ o + 4 ≤ length (now b) ⌝ }
     ensures { λ r. ⌜ (r ≡ load (cells 4 o) (now (b .entry))) × (r < 4294967296) ⌝ }
 {
-    word2(b, o) + 65536 * word2(b, o + 2)
+    wide(b[o]) + 256 * wide(b[o + 1]) + 65536 * wide(b[o + 2]) + 16777216 * wide(b[o + 3])
 }
 
 fn put1(b: &mut [u8], o: usize, w: u32)
@@ -100,25 +101,34 @@ pub(crate) fn load_at(canvas: Canvas, b: &[u8], x: usize, y: usize) -> u32
     }
 }
 
-// The word of a pixel, inked.
-pub(crate) fn touch_at(canvas: Canvas, b: &mut [u8], x: usize, y: usize, ink: Ink)
+fn pick(t: bool, a: u32, b: u32) -> u32
+    ensures { λ r. ⌜ r ≡ cond t a b ⌝ }
+{
+    if t {
+        return a;
+    }
+    b
+}
+
+// The word of a pixel, inked or written back.
+pub(crate) fn touch_at(canvas: Canvas, b: &mut [u8], x: usize, y: usize, inside: bool, ink: Ink)
     requires { ⌜ (Sized canvas (now b)) × (On canvas x y) ⌝ }
-    ensures { λ _. ⌜ now (b .exit) ≡ touch canvas (now (b .entry)) (hit (inked ink) x y) ⌝ }
+    ensures { λ _. ⌜ now (b .exit) ≡ touch canvas (now (b .entry)) (hit (λ w. cond inside (inked ink w) w) x y) ⌝ }
 {
     let o = offset(canvas, x, y);
     let f = canvas.format;
     match f {
         0 => {
-            let w = ink.on(word1(b, o));
-            put1(b, o, w);
+            let w = word1(b, o);
+            put1(b, o, pick(inside, ink.on(w), w));
         }
         1 => {
-            let w = ink.on(word2(b, o));
-            put2(b, o, w);
+            let w = word2(b, o);
+            put2(b, o, pick(inside, ink.on(w), w));
         }
         _ => {
-            let w = ink.on(word4(b, o));
-            put4(b, o, w);
+            let w = word4(b, o);
+            put4(b, o, pick(inside, ink.on(w), w));
         }
     }
 }

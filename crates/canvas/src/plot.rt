@@ -1,9 +1,12 @@
 // Plots: the landing of a point, and the call of one plot.
 ghost use mathlib.Core.Path.{_≡_};
 ghost use mathlib.Core.List.{[], _∷_};
-ghost use Prim.Native.Nat.{_<_};
+ghost use mathlib.Core.Bool.{cond};
+ghost use lib.IntN.{pos};
 ghost use Rattle.words.specs.Ink.{inked};
-ghost use Rattle.canvas.specs.Plot.{plot, landed};
+ghost use Rattle.canvas.specs.Bytes.{On};
+ghost use Rattle.canvas.specs.Clip.{inClip};
+ghost use Rattle.canvas.specs.Plot.{plot, landed, clipped};
 ghost use Rattle.canvas.specs.Call.{putPixel, leaves, call};
 ghost use Rattle.canvas.specs.Walk.{lowered, note, work, point, Fits, Ready, Did};
 use crate::Canvas;
@@ -14,34 +17,25 @@ use crate::faults::Verdict;
 use words::Color;
 use words::Ink;
 
-// A plot more that landed.
-fn landed_one(t: Tally) -> Tally
-    requires { ⌜ Fits (note landed t) ⌝ }
-    ensures { λ r. ⌜ r ≡ note landed t ⌝ }
+// A plot more, that landed or not.
+fn noted(t: Tally, inside: bool) -> Tally
+    requires { ⌜ Fits (note (cond inside landed clipped) t) ⌝ }
+    ensures { λ r. ⌜ r ≡ note (cond inside landed clipped) t ⌝ }
 {
-    Tally {
-        landed: t.landed + 1,
+    if inside {
+        return Tally { landed: t.landed + 1 };
     }
+    t
 }
 
-// A plot at a point of the canvas.
-pub(crate) fn plot_in(
-    canvas: Canvas,
-    b: &mut [u8],
-    x: usize,
-    y: usize,
-    ink: Ink,
-    clip: Clip,
-    t: Tally,
-) -> Tally
-    requires { ⌜ (Ready canvas clip (point (inked ink) y x) (work (now b) t)) × ((x < canvas .width) × (y < canvas .height)) ⌝ }
+// A plot at a point of the canvas, inside the clip or not. One that is not writes the old word back, so that a row
+// of plots has no branch.
+pub(crate) fn plot_in(canvas: Canvas, b: &mut [u8], x: usize, y: usize, inside: bool, ink: Ink, clip: Clip, t: Tally) -> Tally
+    requires { ⌜ (Ready canvas clip (point (inked ink) y x) (work (now b) t)) × ((On canvas x y) × (inside ≡ inClip clip (pos x) (pos y))) ⌝ }
     ensures { λ r. ⌜ Did canvas clip (point (inked ink) y x) (work (now (b .entry)) t) (work (now (b .exit)) r) ⌝ }
 {
-    if !crate::span::in_clip(clip, x, y) {
-        return t;
-    }
-    crate::bytes::touch_at(canvas, b, x, y, ink);
-    landed_one(t)
+    crate::bytes::touch_at(canvas, b, x, y, inside, ink);
+    noted(t, inside)
 }
 
 // A plot at a lifted point.
@@ -71,7 +65,10 @@ pub(crate) fn plot_at(
     if canvas.height as u64 <= py {
         return t;
     }
-    plot_in(canvas, b, px as usize, py as usize, ink, clip, t)
+    let x = px as usize;
+    let y = py as usize;
+    let inside = crate::span::in_clip(clip, x, y);
+    plot_in(canvas, b, x, y, inside, ink, clip, t)
 }
 
 // One plot, anywhere.

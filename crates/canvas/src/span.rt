@@ -1,10 +1,10 @@
 // Spans and clips: signed corners become numbers that are not negative at the door.
 ghost use mathlib.Core.Path.{_≡_};
 ghost use Prim.Native.Nat.{_+_, _-_, _≤_, _<_, min, max};
+ghost use lib.Dec.{leb, ltb};
 ghost use lib.IntN.{pos};
-ghost use Rattle.canvas.specs.Clip.{within, inClip, larger, shared};
-ghost use Rattle.canvas.specs.Boxes.{side};
-ghost use Rattle.canvas.specs.Walk.{lifted, run};
+ghost use Rattle.canvas.specs.Clip.{both, within, inClip, larger, shared};
+ghost use Rattle.canvas.specs.Walk.{lifted, Clamped};
 use crate::Clip;
 
 // A signed number as one that is not negative, 2^31 above it.
@@ -43,7 +43,7 @@ fn most(a: u64, b: u64) -> u64
 }
 
 // Whether p is one of the n numbers from a on.
-fn in_span(a: i32, n: u32, p: usize) -> bool
+pub(crate) fn in_span(a: i32, n: u32, p: usize) -> bool
     requires { ⌜ p < 32768 ⌝ }
     ensures { λ r. ⌜ r ≡ within a n (pos p) ⌝ }
 {
@@ -66,6 +66,15 @@ pub(crate) fn in_clip(clip: Clip, x: usize, y: usize) -> bool
     false
 }
 
+// Whether x is one of the n numbers from a start on. The difference wraps where x lies before the start, and is then
+// too large.
+pub(crate) fn among(from: u32, n: u32, x: u32) -> bool
+    requires { ⌜ (from ≤ 2147483648) × (n ≤ 32767) ⌝ }
+    ensures { λ r. ⌜ r ≡ both (leb from x) (ltb x (from + n)) ⌝ }
+{
+    std::num::wrapping_sub_u32(x, from) < n
+}
+
 // Columns or rows of the canvas, from one up to but not including another.
 pub(crate) struct Span {
     pub(crate) from: usize,
@@ -75,7 +84,7 @@ pub(crate) struct Span {
 // The part of a canvas's side of n pixels that lies in the span of len from a.
 pub(crate) fn clamp_span(a: i32, len: u32, n: u32) -> Span
     requires { ⌜ n ≤ 32767 ⌝ }
-    ensures { λ r. ⌜ (r .to ≤ n) × (run (r .from) (r .to - r .from) ≡ side a len n) ⌝ }
+    ensures { λ r. ⌜ Clamped a len n (r .from) (r .to) ⌝ }
 {
     let u = lift(a);
     let e = u + len as u64;

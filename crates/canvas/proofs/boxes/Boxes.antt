@@ -34,6 +34,10 @@ fill-is v f x y w h =
     inks-each f (λ j. each (λ i. at (pos i) (pos j) ∷ []) (side x w (v .width))) (row f (side x w (v .width))) (side y h (v .height))
     (λ j. inks-each f (λ i. at (pos i) (pos j) ∷ []) (point f j) (side x w (v .width)) (λ i. refl))
 
+-- a canvas with its own format written out
+pub refit : (v r : Canvas) (n : ℕ) → v .format ≡ n → r ≡ record { format = n; width = v .width; height = v .height; xor = v .xor } → r ≡ v
+refit v r n e h = h ∙ ap (λ (m : ℕ). record { format = m; width = v .width; height = v .height; xor = v .xor }) (sym e)
+
 -- what `clamp_span` answers of the two sides
 pub fill-box : (v : Canvas) (f : ℕ → ℕ) (x y : ℤ) (w h : ℕ) (xs ys : List ℕ) → SFits w32 x → SFits w32 y
     → xs ≡ side (toZ w32 (ofZ w32 x)) w (v .width) → ys ≡ side (toZ w32 (ofZ w32 y)) h (v .height) → inks f (fill v x y w h) ≡ box f xs ys

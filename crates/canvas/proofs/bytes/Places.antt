@@ -4,7 +4,7 @@ use mathlib.Core.List.{List}
 use Prim.Native.Nat.{ℕ, zero, suc, _+_, _*_, _^_, _≤_, _<_}
 use native.Mathlib.Omega.{arith}
 use native.Mathlib.Nat.{mul-le-mul-right, mul-le-mul-left, le-trans}
-use native.Mathlib.Numerals.{add-one, add-two}
+use native.Mathlib.Numerals.{add-one, add-two, add-three}
 use lib.Arith.{digits-lt}
 use lib.ListN.{length, getD}
 use Rattle.words.specs.Format.{Format, rgb332, rgb565, rgb8, argb, abgr, none, formatOf, bytesPerPixel, range}
@@ -25,9 +25,14 @@ pub load-2 : (b : List ℕ) (o x y : ℕ) → x ≡ getD b o 0 → y ≡ getD b 
 unfolding load cells get
 load-2 b o x y h k = let k′ : y ≡ getD b (suc o) 0 = rw add-one at k in omega arith
 
-pub load-4 : (b : List ℕ) (o x y : ℕ) → x ≡ load (cells 2 o) b → y ≡ load (cells 2 (o + 2)) b → x + 65536 * y ≡ load (cells 4 o) b
+pub load-4 : (b : List ℕ) (o x y z w : ℕ) → x ≡ getD b o 0 → y ≡ getD b (o + 1) 0 → z ≡ getD b (o + 2) 0 → w ≡ getD b (o + 3) 0
+  → x + 256 * y + 65536 * z + 16777216 * w ≡ load (cells 4 o) b
 unfolding load cells get
-load-4 b o x y h k = let k′ : y ≡ load (cells 2 (suc (suc o))) b = rw add-two at k in omega arith
+load-4 b o x y z w h i j k =
+    let i′ : y ≡ getD b (suc o) 0 = rw add-one at i in
+    let j′ : z ≡ getD b (suc (suc o)) 0 = rw add-two at j in
+    let k′ : w ≡ getD b (suc (suc (suc o))) 0 = rw add-three at k in
+    omega arith
 
 -- ---- the bytes of a pixel
 

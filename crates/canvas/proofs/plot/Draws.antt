@@ -24,10 +24,15 @@ did-one v c p f w w′ e h = record { same = rw (e, drawn) h }
 pub work-is : {b b′ : List ℕ} {t t′ : Tally} → b ≡ b′ → t ≡ t′ → work b t ≡ work b′ t′
 work-is {b} {b′} {t} e g = ap (λ (x : List ℕ). work x t) e ∙ ap (work b′) g
 
--- a plot that lands needs room for one more
-pub room-one : {v : Canvas} {c : Clip} {p : Plot} {w : Work} → Ready v c (p ∷ []) w → fate v c p ≡ landed → Fits (note landed (w .tally))
+-- a plot needs room for its note
+act-notes : (v : Canvas) (p : Plot) (f : Fate) (w : Work) → act v p f w .tally ≡ note f (w .tally)
+act-notes v p landed w = refl
+act-notes v p outside w = refl
+act-notes v p clipped w = refl
+
+pub room-one : {v : Canvas} {c : Clip} {p : Plot} {w : Work} (f : Fate) → Ready v c (p ∷ []) w → fate v c p ≡ f → Fits (note f (w .tally))
 unfolding drawn
-room-one {v} {c} {p} {w} r e = let q : Fits (act v p (fate v c p) w .tally) = r .room in rw e at q
+room-one {v} {c} {p} {w} f r e = let q : Fits (act v p (fate v c p) w .tally) = r .room in rw (e, act-notes v p f w) at q
 
 -- ---- plots one after the other
 

@@ -1,6 +1,6 @@
 -- The fate of a plot, from what the code tests.
 use mathlib.Core.Path.{_≡_, refl, sym, ap, ap₂, _∙_}
-use mathlib.Core.Bool.{Bool, true, false}
+use mathlib.Core.Bool.{Bool, true, false, cond}
 use Prim.Native.Nat.{ℕ, suc, _+_, _-_, _≤_, _<_}
 use native.Mathlib.Omega.{arith}
 use native.Mathlib.Nat.{zero-add}
@@ -62,14 +62,10 @@ pub is-outside : (v : Canvas) (c : Clip) (x y : ℤ) (f : ℕ → ℕ) → onCan
 unfolding fate
 is-outside v c x y f o = rw o refl
 
-module _ (v : Canvas) (c : Clip) (x y : ℤ) (f : ℕ → ℕ) (r : Bool) (o : onCanvas v x y ≡ true) (e : r ≡ inClip c x y) where
-  pub is-clipped : r ≡ false → fate v c (plot f x y) ≡ clipped
-  unfolding fate
-  is-clipped h = rw (o, ← e, h) refl
-
-  pub is-landed : r ≡ true → fate v c (plot f x y) ≡ landed
-  unfolding fate
-  is-landed h = rw (o, ← e, h) refl
+pub is-inside : (v : Canvas) (c : Clip) (x y : ℤ) (f : ℕ → ℕ) (r : Bool) → onCanvas v x y ≡ true → r ≡ inClip c x y → fate v c (plot f x y) ≡ cond r landed clipped
+unfolding fate
+is-inside v c x y f true o e = rw (o, ← e) refl
+is-inside v c x y f false o e = rw (o, ← e) refl
 
 -- ---- what lands is on the canvas
 

@@ -1,19 +1,22 @@
 -- What plots leave is the paint of the landed ones, and their number; and inks that agree on words paint alike.
 use mathlib.Core.Path.{_≡_, refl, sym, ap, ap₂, _∙_}
+use mathlib.Core.Bool.{Bool, true, false, cond}
 use mathlib.Core.List.{List, [], _∷_, _++_}
 use Prim.Native.Nat.{ℕ, zero, suc, _+_, _≤_, _<_}
 use native.Mathlib.Omega.{arith}
-use lib.IntN.{natAbs}
+use lib.IntN.{pos, natAbs}
 use lib.ListN.{length}
+use Rattle.words.specs.declared.Ink.{Ink}
 use Rattle.words.specs.Format.{range}
+use Rattle.words.specs.Ink.{inked}
 use Rattle.canvas.specs.declared.Canvas.{Canvas}
 use Rattle.canvas.specs.declared.Clip.{Clip}
 use Rattle.canvas.specs.declared.Tally.{Tally}
 use Rattle.canvas.specs.Bytes.{form, loadAt, storeAt}
 use Rattle.canvas.specs.Plot.{Point, Plot, plot, inks, Fate, landed, outside, clipped, fate, Hit, hit, hitOf, keep, hits, touch, paint}
-use Rattle.canvas.specs.Walk.{Work, work, act, drawn}
+use Rattle.canvas.specs.Walk.{note, Work, work, act, drawn}
 use Rattle.canvas.proofs.bytes.Cells.{Bytes}
-use Rattle.canvas.proofs.bytes.Pixels.{bytes-store, load-lt}
+use Rattle.canvas.proofs.bytes.Pixels.{bytes-store, load-lt, store-load}
 
 abbrev tally : ℕ → Tally
 tally n = record { landed = n }
@@ -43,6 +46,14 @@ drawn-is v c (p ∷ ps) w =
 touch-ink : (v : Canvas) (b : List ℕ) (x y : ℕ) (f g : ℕ → ℕ) → Bytes b → ((w : ℕ) → w < range (form v) → f w ≡ g w) → touch v b (hit f x y) ≡ touch v b (hit g x y)
 unfolding touch
 touch-ink v b x y f g h e = ap (storeAt v b x y) (e (loadAt v b x y) (load-lt v b x y h))
+
+-- what `plot_in` leaves is one plot, landed or clipped; storing what was loaded changes nothing
+pub act-inside : (v : Canvas) (x y : ℕ) (i : Ink) (w : Work) (b′ : List ℕ) (t : Tally) (r : Bool) → Bytes (w .bytes)
+  → b′ ≡ touch v (w .bytes) (hit (λ k. cond r (inked i k) k) x y) → t ≡ note (cond r landed clipped) (w .tally)
+  → work b′ t ≡ act v (plot (inked i) (pos x) (pos y)) (cond r landed clipped) w
+unfolding touch
+act-inside v x y i w b′ t true h e n = ap₂ work e n
+act-inside v x y i w b′ t false h e n = ap₂ work (e ∙ store-load v (w .bytes) x y h) n
 
 touch-bytes : (v : Canvas) (b : List ℕ) (h : Hit) → Bytes b → Bytes (touch v b h)
 unfolding touch

@@ -2,7 +2,7 @@
 use mathlib.Core.Path.{_≡_, refl, sym, ap, ap₂, _∙_}
 use mathlib.Core.Bool.{Bool, true, false, cond}
 use mathlib.Core.List.{List, [], _∷_, _++_, append-nil}
-use Prim.Native.Nat.{ℕ, zero, suc, _+_, _-_, _≤_, _<_, min}
+use Prim.Native.Nat.{ℕ, zero, suc, _+_, _-_, _%_, _≤_, _<_, min}
 use native.Mathlib.Omega.{arith}
 use native.Mathlib.Nat.{zero-add, add-zero, suc-add, min-le-left, min-le-right, lt-of-lt-of-le}
 use native.Mathlib.Decide.{decLt, decLe}
@@ -13,11 +13,16 @@ use lib.Signed.{ltZ}
 use mir.Syntax.{w32}
 use mir.Val.{SFits, toZ, ofZ}
 use mir.ValLaws.{toZ-ofZ}
+use Rattle.canvas.specs.declared.Canvas.{Canvas}
 use Rattle.canvas.specs.declared.Clip.{Clip}
 use Rattle.canvas.specs.Clip.{both, within, inClip}
-use Rattle.canvas.specs.Boxes.{select, side}
-use Rattle.canvas.specs.Walk.{lifted, run}
-use Rattle.canvas.proofs.span.Lifts.{lift-is}
+use Rattle.canvas.specs.Boxes.{select}
+use Rattle.canvas.specs.Walk.{lifted, run, Clamped, Inner}
+use Rattle.canvas.proofs.span.Lifts.{lift-is, lifted-lt}
+
+both-yes : (t : Bool) → both t true ≡ t
+both-yes true = refl
+both-yes false = refl
 
 pub both-no : (t : Bool) → both t false ≡ false
 both-no true = refl
@@ -152,8 +157,59 @@ span-holds a len u from end s eu ef ee = record { below = below; inside = inside
     past : (k : ℕ) → end ≤ k → within a len (pos k) ≡ false
     past k h = within-lifted a len k s ∙ rw (← e, le-ltb (2147483648 + k) (u + len) (omega arith)) (both-no (leb u (2147483648 + k)))
 
+-- the ends of the run tell which of the first n pass
+among : (t : ℕ → Bool) (lo end n to : ℕ) → Holds t lo end → to ≡ min end n → (x : ℕ) → x < n → both (leb lo x) (ltb x to) ≡ t x
+among t lo end n to h e x l = go (decLt x lo) (decLt x end)
+  where
+    go : Dec (x < lo) → Dec (x < end) → both (leb lo x) (ltb x to) ≡ t x
+    go (yes p) q = rw (lt-leb lo x p, h .below x p) refl
+    go (no p) (yes q) = rw (le-leb lo x (omega arith), lt-ltb x to (omega arith), h .inside x (omega arith) q) refl
+    go (no p) (no q) = rw (le-ltb x to (omega arith), h .past x (omega arith)) (both-no (leb lo x))
+
 -- what `clamp_span` answers
-pub side-run : (a : ℤ) (len n u from end to : ℕ) → SFits w32 a → u ≡ lifted (toZ w32 (ofZ w32 a)) → from ≡ u - 2147483648 → end ≡ u + len - 2147483648
-    → to ≡ min end n → run from (to - from) ≡ side a len n
-side-run a len n u from end to s eu ef ee et =
-    run-is (λ k. within a len (pos k)) from end n to (span-holds a len u from end s eu ef ee) et
+pub clamped : (a : ℤ) (len n u from end to : ℕ) → SFits w32 a → u ≡ lifted (toZ w32 (ofZ w32 a)) → from ≡ u - 2147483648 → end ≡ u + len - 2147483648
+  → to ≡ min end n → Clamped a len n from to
+clamped a len n u from end to s eu ef ee et =
+    let h : Holds (λ k. within a len (pos k)) from end = span-holds a len u from end s eu ef ee in
+    record { low = omega (arith, lift-is a u s eu, lifted-lt a s); held = rw et (min-le-right end n); same = run-is (λ k. within a len (pos k)) from end n to h et; among = among (λ k. within a len (pos k)) from end n to h et }
+
+-- what `among` answers: r is the difference, which wraps
+pub among-is : (from n x r : ℕ) → from ≤ 2147483648 → n ≤ 32767 → x < 4294967296 → r < 4294967296 → (r + from) % 4294967296 ≡ x
+  → ltb r n ≡ both (leb from x) (ltb x (from + n))
+among-is from n x r hf hn hx hr e = go (decLe from x)
+  where
+    go : Dec (from ≤ x) → ltb r n ≡ both (leb from x) (ltb x (from + n))
+    go (yes h) = rw (le-leb from x h) (same-leb (suc r) n (suc x) (from + n) (omega arith) (omega arith))
+    go (no h) = rw (lt-leb from x (omega arith)) (le-ltb r n (omega arith))
+
+-- the columns of a row inside the clip: none, or those of the clip's span
+module _ (v : Canvas) (c : Clip) (y : ℕ) (s : SFits w32 (c .y)) (r : Bool) (e : r ≡ within (toZ w32 (ofZ w32 (c .y))) (c .height) (pos y)) where
+  down : r ≡ within (c .y) (c .height) (pos y)
+  down = rw (toZ-ofZ w32 (c .y) s) at e
+
+  none-at : (x : ℕ) → both (leb 0 x) (ltb x (0 + 0)) ≡ false
+  none-at x = rw (le-ltb x (0 + 0) (omega arith)) (both-no (leb 0 x))
+
+  pub inner-none : r ≡ false → Inner v c y 0 0
+  unfolding inClip
+  inner-none h = record { low = omega arith; few = omega arith;
+      inner = λ x l. none-at x ∙ sym (rw (← down, h) (both-no (within (c .x) (c .width) (pos x)))) }
+
+  module _ (from to : ℕ) (t : SFits w32 (c .x)) (h : r ≡ true) (k : Clamped (toZ w32 (ofZ w32 (c .x))) (c .width) (v .width) from to) where
+    clip-among : (x : ℕ) → x < v .width → both (leb from x) (ltb x to) ≡ inClip c (pos x) (pos y)
+    unfolding inClip
+    clip-among x l =
+        let k′ : Clamped (c .x) (c .width) (v .width) from to = rw (toZ-ofZ w32 (c .x) t) at k in
+        k′ .among x l ∙ sym (rw (← down, h) (both-yes (within (c .x) (c .width) (pos x))))
+
+    apart : (x : ℕ) → to < from → Dec (x < to) → both (leb from x) (ltb x to) ≡ false
+    apart x l (yes m) = rw (lt-leb from x (omega arith)) refl
+    apart x l (no m) = rw (le-ltb x to (omega arith)) (both-no (leb from x))
+
+    pub inner-empty : to < from → Inner v c y 0 0
+    inner-empty m = record { low = omega arith; few = omega arith; inner = λ x l. none-at x ∙ sym (apart x m (decLt x to)) ∙ clip-among x l }
+
+    pub inner-some : v .width ≤ 32767 → from ≤ to → Inner v c y from (to - from)
+    inner-some w m =
+        let z : from + (to - from) ≡ to = omega arith in
+        record { low = k .low; few = omega (arith, k .held); inner = λ x l. ap (λ (n : ℕ). both (leb from x) (ltb x n)) z ∙ clip-among x l }

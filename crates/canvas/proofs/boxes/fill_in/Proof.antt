@@ -12,13 +12,13 @@ clamp-span-requires-2 : tie.Need-clamp-span-requires-2
 clamp-span-requires-2 c κs = search needs
 
 box-part-requires : tie.Need-box-part-requires
-box-part-requires c κs = (rw (fill-box (c .before .before .before .before .args .canvas) (inked (c .before .before .before .before .args .ink)) (c .before .before .before .before .args .x) (c .before .before .before .before .args .y) (c .before .before .before .before .args .w) (c .before .before .before .before .args .h) _ _ (c .before .before .before .before .fits .x) (c .before .before .before .before .fits .y) (c .before .before .clamp-span .ensures .1) (c .before .clamp-span2 .ensures .1)) at (c .before .before .before .before .pre), (c .before .before .clamp-span .ensures .0, c .before .clamp-span2 .ensures .0))
+box-part-requires c κs = (rw (fill-box (c .before .before .before .before .args .canvas) (inked (c .before .before .before .before .args .ink)) (c .before .before .before .before .args .x) (c .before .before .before .before .args .y) (c .before .before .before .before .args .w) (c .before .before .before .before .args .h) _ _ (c .before .before .before .before .fits .x) (c .before .before .before .before .fits .y) (c .before .before .clamp-span .ensures .same) (c .before .clamp-span2 .ensures .same)) at (c .before .before .before .before .pre), (c .before .before .clamp-span .ensures .held, c .before .clamp-span2 .ensures .held))
 
 same-length : tie.Need-same-length
 same-length c = search needs
 
 returns : tie.Need-returns
-returns c = rw (fill-box (c .before .before .before .before .before .before .before .args .canvas) (inked (c .before .before .before .before .before .before .before .args .ink)) (c .before .before .before .before .before .before .before .args .x) (c .before .before .before .before .before .before .before .args .y) (c .before .before .before .before .before .before .before .args .w) (c .before .before .before .before .before .before .before .args .h) _ _ (c .before .before .before .before .before .before .before .fits .x) (c .before .before .before .before .before .before .before .fits .y) (c .before .before .before .before .before .clamp-span .ensures .1) (c .before .before .before .before .clamp-span2 .ensures .1)) (c .before .before .box-part .ensures)
+returns c = rw (fill-box (c .before .before .before .before .before .before .before .args .canvas) (inked (c .before .before .before .before .before .before .before .args .ink)) (c .before .before .before .before .before .before .before .args .x) (c .before .before .before .before .before .before .before .args .y) (c .before .before .before .before .before .before .before .args .w) (c .before .before .before .before .before .before .before .args .h) _ _ (c .before .before .before .before .before .before .before .fits .x) (c .before .before .before .before .before .before .before .fits .y) (c .before .before .before .before .before .clamp-span .ensures .same) (c .before .before .before .before .clamp-span2 .ensures .same)) (c .before .before .box-part .ensures)
 
 pub fill-in-spec : {M : Type 1} → statement M
 fill-in-spec =

@@ -1,49 +1,59 @@
--- What is left of the row leads to the same end as all of it.
+-- Each arm walks the same row of the same canvas.
+use Rattle.canvas.proofs.boxes.Boxes.{refit}
 use native.Mathlib.Omega.{arith}
-use Prim.Native.Nat.{_-_}
-use Rattle.words.specs.Ink.{inked}
-use Rattle.canvas.specs.Walk.{run, work, point, row}
-use Rattle.canvas.proofs.plot.Draws.{Left, left-start, left-length, each-turn, each-ready, each-end}
+use borrow.Author.Needs.{needs}
 use Rattle.canvas.proofs.boxes.row_part.Statement.{statement}
 use Rattle.canvas.proofs.boxes.row_part.Tie as tie
 
-abbrev Inv-loop : tie.InvT-loop
-Inv-loop canvas b₀ y x0 x1 ink clip t₀ x₀ b t x = Left canvas clip (row (inked ink) (run x (x1 - x)) y) (work b t) (row (inked ink) (run x₀ (x1 - x₀)) y) (work b₀ t₀)
+inner-of-requires : tie.Need-inner-of-requires
+inner-of-requires c κs = (c .before .pre .0 .sized .wide, omega (arith, c .before .pre .0 .sized .high, c .before .pre .1 .1))
 
-abbrev μ-loop : tie.MeasureT-loop
-μ-loop canvas b₀ y x0 x1 ink clip t₀ x₀ b t x = x1 - x
+of-format-requires : tie.Need-of-format-requires
+of-format-requires c κs = search needs
 
-loop-holds : tie.Need-loop-holds Inv-loop μ-loop
-loop-holds c = left-start
+row-in-requires : tie.Need-row-in-requires
+row-in-requires c κs = rw (refit (c .before .before .before .before .before .args .canvas) (c .before .of-format .result) 0 (c .before .before .match .keys1) (c .before .of-format .ensures)) (c .before .before .before .before .before .pre .0, (c .before .before .before .before .before .pre .1 .0, (c .before .before .before .before .before .pre .1 .1, c .before .before .before .inner-of .ensures)))
 
-plot-in-requires : tie.Need-plot-in-requires Inv-loop μ-loop
-plot-in-requires c κs = (each-ready (c .before .before .before .before .args .canvas) (c .before .before .before .before .args .clip) (point (inked (c .before .before .before .before .args .ink)) (c .before .before .before .before .args .y)) (c .before .before .loop .x) (c .before .before .before .before .args .x1) (c .before .before .loop .inv) (c .before .loop-test .taken) (c .before .before .before .before .pre .0), (omega arith, c .before .before .before .before .pre .1 .1))
+of-format-requires-2 : tie.Need-of-format-requires-2
+of-format-requires-2 c κs = search needs
 
-add-x : tie.Need-add-x Inv-loop μ-loop
-add-x c = omega arith
+row-in-requires-2 : tie.Need-row-in-requires-2
+row-in-requires-2 c κs = rw (refit (c .before .before .before .before .before .args .canvas) (c .before .of-format2 .result) 1 (c .before .before .match .keys2) (c .before .of-format2 .ensures)) (c .before .before .before .before .before .pre .0, (c .before .before .before .before .before .pre .1 .0, (c .before .before .before .before .before .pre .1 .1, c .before .before .before .inner-of .ensures)))
 
-loop-less : tie.Need-loop-less Inv-loop μ-loop
-loop-less c = omega arith
+row-in-requires-3 : tie.Need-row-in-requires-3
+row-in-requires-3 c κs = (c .before .before .before .before .pre .0, (c .before .before .before .before .pre .1 .0, (c .before .before .before .before .pre .1 .1, c .before .before .inner-of .ensures)))
 
-loop-again : tie.Need-loop-again Inv-loop μ-loop
-loop-again c = each-turn (c .before .before .before .before .before .before .before .args .canvas) (c .before .before .before .before .before .before .before .args .clip) (point (inked (c .before .before .before .before .before .before .before .args .ink)) (c .before .before .before .before .before .before .before .args .y)) (c .before .before .before .before .before .loop .x) (c .before .before .before .before .before .before .before .args .x1) (c .before .before .before .before .before .loop .inv) (c .before .before .before .before .loop-test .taken) (c .before .before .plot-in .ensures)
+same-length : tie.Need-same-length
+same-length c = search needs
 
-same-length : tie.Need-same-length Inv-loop μ-loop
-same-length c = left-length (c .before .loop .inv)
+returns : tie.Need-returns
+returns c = rw (refit (c .before .before .before .before .before .before .before .before .args .canvas) (c .before .before .before .before .of-format .result) 0 (c .before .before .before .before .before .match .keys1) (c .before .before .before .before .of-format .ensures)) at (c .before .before .row-in .ensures)
 
-returns : tie.Need-returns Inv-loop μ-loop
-returns c = each-end (c .before .before .before .args .canvas) (c .before .before .before .args .clip) (point (inked (c .before .before .before .args .ink)) (c .before .before .before .args .y)) (c .before .loop .x) (c .before .before .before .args .x1) (c .before .loop .inv) (c .loop-test .left)
+same-length-2 : tie.Need-same-length-2
+same-length-2 c = search needs
+
+returns-2 : tie.Need-returns-2
+returns-2 c = rw (refit (c .before .before .before .before .before .before .before .before .args .canvas) (c .before .before .before .before .of-format2 .result) 1 (c .before .before .before .before .before .match .keys2) (c .before .before .before .before .of-format2 .ensures)) at (c .before .before .row-in2 .ensures)
+
+same-length-3 : tie.Need-same-length-3
+same-length-3 c = search needs
+
+returns-3 : tie.Need-returns-3
+returns-3 c = c .before .before .row-in3 .ensures
 
 pub row-part-spec : {M : Type 1} → statement M
 row-part-spec =
     tie.close
     (tie.spec
-    Inv-loop
-    μ-loop
-    loop-holds
-    plot-in-requires
-    add-x
-    loop-less
-    loop-again
+    inner-of-requires
+    of-format-requires
+    row-in-requires
+    of-format-requires-2
+    row-in-requires-2
+    row-in-requires-3
     same-length
-    returns)
+    returns
+    same-length-2
+    returns-2
+    same-length-3
+    returns-3)

@@ -1,5 +1,4 @@
 -- Four tests put a plot outside the canvas; what passes them is a plot at a pixel.
-use native.Mathlib.Omega.{arith}
 use mathlib.Core.Path.{refl}
 use Rattle.words.specs.Ink.{inked}
 use Rattle.canvas.specs.Plot.{plot, outside}
@@ -29,16 +28,19 @@ cast-if4 c = search needs
 returns-4 : tie.Need-returns-4
 returns-4 c = did-one (c .before .before .before .before .before .before .before .args .canvas) (c .before .before .before .before .before .before .before .args .clip) (plot (inked (c .before .before .before .before .before .before .before .args .ink)) (lowered (c .before .before .before .before .before .before .before .args .p)) (lowered (c .before .before .before .before .before .before .before .args .q))) outside _ _ (is-outside (c .before .before .before .before .before .before .before .args .canvas) (c .before .before .before .before .before .before .before .args .clip) _ _ (inked (c .before .before .before .before .before .before .before .args .ink)) (off-below (c .before .before .before .before .before .before .before .args .canvas) (c .before .before .before .before .before .before .before .args .p) (c .before .before .before .before .before .before .before .args .q) (c .before .before .before .before .if2 .left) (c .if4 .taken))) refl
 
+in-clip-requires : tie.Need-in-clip-requires
+in-clip-requires c κs = search needs
+
 plot-in-requires : tie.Need-plot-in-requires
 unfolding point
-plot-in-requires c κs = (rw (lowered-pos (c .before .before .before .before .before .before .before .before .args .p) (c .before .before .before .before .before .before .if1 .left), lowered-pos (c .before .before .before .before .before .before .before .before .args .q) (c .before .before .before .before .before .if2 .left)) at (c .before .before .before .before .before .before .before .before .pre), (omega arith, omega arith))
+plot-in-requires c κs = (rw (lowered-pos (c .before .before .before .before .before .before .before .before .before .args .p) (c .before .before .before .before .before .before .before .if1 .left), lowered-pos (c .before .before .before .before .before .before .before .before .before .args .q) (c .before .before .before .before .before .before .if2 .left)) at (c .before .before .before .before .before .before .before .before .before .pre), (record { across = c .before .before .before .before .if3 .left; down = c .before .before .if4 .left }, c .before .in-clip .ensures))
 
 same-length : tie.Need-same-length
 same-length c = search needs
 
 returns-5 : tie.Need-returns-5
 unfolding point
-returns-5 c = rw (lowered-pos (c .before .before .before .before .before .before .before .before .before .before .before .args .p) (c .before .before .before .before .before .before .before .before .before .if1 .left), lowered-pos (c .before .before .before .before .before .before .before .before .before .before .before .args .q) (c .before .before .before .before .before .before .before .before .if2 .left)) (c .before .before .plot-in .ensures)
+returns-5 c = rw (lowered-pos (c .before .before .before .before .before .before .before .before .before .before .before .before .args .p) (c .before .before .before .before .before .before .before .before .before .before .if1 .left), lowered-pos (c .before .before .before .before .before .before .before .before .before .before .before .before .args .q) (c .before .before .before .before .before .before .before .before .before .if2 .left)) (c .before .before .plot-in .ensures)
 
 pub plot-at-spec : {M : Type 1} → statement M
 plot-at-spec =
@@ -50,6 +52,7 @@ plot-at-spec =
     returns-3
     cast-if4
     returns-4
+    in-clip-requires
     plot-in-requires
     same-length
     returns-5)

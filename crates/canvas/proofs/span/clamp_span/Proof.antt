@@ -4,7 +4,7 @@ use mir.Syntax.{w32}
 use mir.Val.{toZ, ofZ}
 use mir.ValLaws.{toZ-fits, ofZ-fits}
 use Rattle.canvas.proofs.span.Lifts.{lifted-lt}
-use Rattle.canvas.proofs.span.Spans.{side-run}
+use Rattle.canvas.proofs.span.Spans.{clamped}
 use borrow.Author.Needs.{needs}
 use Rattle.canvas.proofs.span.clamp_span.Statement.{statement}
 use Rattle.canvas.proofs.span.clamp_span.Tie as tie
@@ -25,7 +25,7 @@ least-requires : tie.Need-least-requires
 least-requires c κs = search needs
 
 returns : tie.Need-returns
-returns c = (omega (arith, c .least .ensures), side-run (c .before .before .before .before .args .a) (c .before .before .before .before .args .len) (c .before .before .before .before .args .n) _ _ _ _ (c .before .before .before .before .fits .a) (c .before .before .before .lift .ensures) (c .before .before .above .ensures) (c .before .above2 .ensures) (c .least .ensures))
+returns c = clamped (c .before .before .before .before .args .a) (c .before .before .before .before .args .len) (c .before .before .before .before .args .n) _ _ _ _ (c .before .before .before .before .fits .a) (c .before .before .before .lift .ensures) (c .before .before .above .ensures) (c .before .above2 .ensures) (c .least .ensures)
 
 pub clamp-span-spec : {M : Type 1} → statement M
 clamp-span-spec =
