@@ -1,6 +1,6 @@
 -- Spans and clips, in whole numbers without wrap.
 use mathlib.Core.Bool.{Bool, true, false}
-use Prim.Native.Nat.{ℕ, _+_, _-_, max, min}
+use Prim.Native.Nat.{ℕ, _+_, _-_}
 use lib.IntN.{ℤ, pos, negsuc, _+ℤ_, _-ℤ_}
 use lib.Signed.{leZ, ltZ}
 use mathlib.Core.Bool.{cond}

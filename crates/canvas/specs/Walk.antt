@@ -3,12 +3,10 @@ use mathlib.Core.Path.{_≡_}
 use mathlib.Core.List.{List, [], _∷_}
 use Prim.Native.Nat.{ℕ, zero, suc, _+_, _-_, _<_, _≤_}
 use lib.IntN.{ℤ, pos, negsuc, subℕ}
-use lib.ListN.{length}
 use lib.Dec.{leb, ltb}
 use Rattle.canvas.specs.declared.Canvas.{Canvas}
 use Rattle.canvas.specs.declared.Clip.{Clip}
 use Rattle.canvas.specs.declared.Tally.{Tally}
-use Rattle.canvas.specs.Bytes.{extent}
 use Rattle.canvas.specs.Faults.{Sized}
 use Rattle.canvas.specs.Clip.{both, within, inClip}
 use Rattle.canvas.specs.Boxes.{side, each}
@@ -45,6 +43,10 @@ abbrev pub note : Fate → Tally → Tally
 note landed t = record { landed = t .landed + 1 }
 note outside t = t
 note clipped t = t
+
+-- The tally with n more that landed.
+abbrev pub plus : Tally → ℕ → Tally
+plus t n = record { landed = t .landed + n }
 
 -- What a walk works on: the lent bytes, and the tally so far.
 pub record Work : Type 0 where

@@ -11,6 +11,7 @@ use crate::Clip;
 use crate::Drawn;
 use crate::Tally;
 use crate::faults::Verdict;
+use crate::plot::landed_more;
 use crate::plot::plot_in;
 use crate::span::Span;
 use crate::span::among;
@@ -20,19 +21,39 @@ use words::Color;
 use words::Ink;
 
 // The plots of a part of a row whose columns inside the clip are known.
-fn row_in(canvas: Canvas, b: &mut [u8], y: usize, x0: usize, x1: usize, inner: Columns, ink: Ink, clip: Clip, t0: Tally) -> Tally
-    requires { ⌜ (Ready canvas clip (row (inked ink) (run x0 (x1 - x0)) y) (work (now b) t0)) × ((x1 ≤ canvas .width) × ((y < canvas .height) × (Inner canvas clip y (inner .from) (inner .count)))) ⌝ }
-    ensures { λ r. ⌜ Did canvas clip (row (inked ink) (run x0 (x1 - x0)) y) (work (now (b .entry)) t0) (work (now (b .exit)) r) ⌝ }
+fn row_in(
+    canvas: Canvas,
+    b: &mut [u8],
+    y: usize,
+    x0: usize,
+    x1: usize,
+    inner: Columns,
+    ink: Ink,
+    clip: Clip,
+    t: Tally,
+) -> Tally
+    requires { ⌜ (Ready canvas clip (row (inked ink) (run x0 (x1 - x0)) y) (work (now b) t)) × ((x1 ≤ canvas .width) × ((y < canvas .height) × (Inner canvas clip y (inner .from) (inner .count)))) ⌝ }
+    ensures { λ r. ⌜ Did canvas clip (row (inked ink) (run x0 (x1 - x0)) y) (work (now (b .entry)) t) (work (now (b .exit)) r) ⌝ }
 {
     let from = inner.from;
     let count = inner.count;
-    let mut t = t0;
+    let mut n: u32 = 0;
     let mut x = x0;
     while x < x1 {
-        t = plot_in(canvas, b, x, y, among(from, count, x as u32), ink, clip, t);
+        n = plot_in(
+            canvas,
+            b,
+            x,
+            y,
+            among(from, count, x as u32),
+            ink,
+            clip,
+            t,
+            n,
+        );
         x = x + 1;
     }
-    t
+    landed_more(t, n)
 }
 
 // Columns of a row: so many, from one on.
@@ -60,7 +81,16 @@ fn inner_of(canvas: Canvas, clip: Clip, y: usize) -> Columns
 }
 
 // The plots of a part of a row. The format is a constant in each arm, so that the loop is compiled for each word size.
-fn row_part(canvas: Canvas, b: &mut [u8], y: usize, x0: usize, x1: usize, ink: Ink, clip: Clip, t: Tally) -> Tally
+fn row_part(
+    canvas: Canvas,
+    b: &mut [u8],
+    y: usize,
+    x0: usize,
+    x1: usize,
+    ink: Ink,
+    clip: Clip,
+    t: Tally,
+) -> Tally
     requires { ⌜ (Ready canvas clip (row (inked ink) (run x0 (x1 - x0)) y) (work (now b) t)) × ((x1 ≤ canvas .width) × (y < canvas .height)) ⌝ }
     ensures { λ r. ⌜ Did canvas clip (row (inked ink) (run x0 (x1 - x0)) y) (work (now (b .entry)) t) (work (now (b .exit)) r) ⌝ }
 {

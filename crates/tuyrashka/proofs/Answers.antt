@@ -1,5 +1,5 @@
 -- From the canvas's answers to C's numbers; a signed argument reaches a callee as `toZ w (ofZ w x)`.
-use mathlib.Core.Path.{_≡_, refl, sym, ap, ap₂, _∙_}
+use mathlib.Core.Path.{_≡_, ap, ap₂, _∙_}
 use mathlib.Core.List.{List}
 use Prim.Native.Nat.{ℕ}
 use lib.IntN.{ℤ}
@@ -7,21 +7,21 @@ use mir.Syntax.{w32}
 use mir.Val.{SFits, toZ, ofZ}
 use mir.ValLaws.{toZ-ofZ}
 use Rattle.words.specs.declared.Color.{Color}
-use Rattle.words.specs.Format.{formatOf, argb}
-use Rattle.words.specs.Word.{fromColor, toColor}
+use Rattle.words.specs.Format.{formatOf}
+use Rattle.words.specs.Word.{toColor}
 use Rattle.canvas.specs.declared.Canvas.{Canvas}
 use Rattle.canvas.specs.declared.Clip.{Clip}
 use Rattle.canvas.specs.declared.Drawn.{Drawn}
 use Rattle.canvas.specs.declared.Pixel.{Pixel}
-use Rattle.canvas.specs.Call.{Call, Outcome, outcome, statusOf, countOf, leaves, call}
-use Rattle.canvas.specs.Look.{Reading, reads, pixelAt}
-use Rattle.tuyrashka.specs.Exported.{color, clip, Told, told, tells}
+use Rattle.canvas.specs.Call.{Call, outcome, statusOf, countOf, leaves, call}
+use Rattle.canvas.specs.Look.{reads, pixelAt}
+use Rattle.tuyrashka.specs.Exported.{color, clip, Told, tells}
 
 -- a drawing call of a colour under a clip, at a point
 pub exports : (v : Canvas) (b b′ : List ℕ) (k : ℤ → ℤ → Color → Clip → Call) (x y cx cy : ℤ) (cw ch w s n : ℕ) (d : Drawn) (c : Color)
-  → SFits w32 x → SFits w32 y → SFits w32 cx → SFits w32 cy → c ≡ toColor (formatOf 3) w → s ≡ statusOf d → n ≡ countOf d
-  → leaves d b′ ≡ call v (k (toZ w32 (ofZ w32 x)) (toZ w32 (ofZ w32 y)) c (clip (toZ w32 (ofZ w32 cx)) (toZ w32 (ofZ w32 cy)) cw ch)) b
-  → outcome s n b′ ≡ call v (k x y (color w) (clip cx cy cw ch)) b
+    → SFits w32 x → SFits w32 y → SFits w32 cx → SFits w32 cy → c ≡ toColor (formatOf 3) w → s ≡ statusOf d → n ≡ countOf d
+    → leaves d b′ ≡ call v (k (toZ w32 (ofZ w32 x)) (toZ w32 (ofZ w32 y)) c (clip (toZ w32 (ofZ w32 cx)) (toZ w32 (ofZ w32 cy)) cw ch)) b
+    → outcome s n b′ ≡ call v (k x y (color w) (clip cx cy cw ch)) b
 unfolding formatOf
 exports v b b′ k x y cx cy cw ch w s n d c sx sy scx scy ec es en h =
     ap₂ (λ (i j : ℕ). outcome i j b′) es en
@@ -29,7 +29,7 @@ exports v b b′ k x y cx cy cw ch w s n d c sx sy scx scy ec es en h =
 
 -- a pixel read
 pub shows : (v : Canvas) (b : List ℕ) (x y : ℤ) (p : Pixel) (t : Told) → SFits w32 x → SFits w32 y
-  → t ≡ tells (reads p) → reads p ≡ pixelAt v b (toZ w32 (ofZ w32 x)) (toZ w32 (ofZ w32 y)) → t ≡ tells (pixelAt v b x y)
+    → t ≡ tells (reads p) → reads p ≡ pixelAt v b (toZ w32 (ofZ w32 x)) (toZ w32 (ofZ w32 y)) → t ≡ tells (pixelAt v b x y)
 shows v b x y p t sx sy e h =
     let h′ : reads p ≡ pixelAt v b x y = rw (toZ-ofZ w32 x sx, toZ-ofZ w32 y sy) at h in
     e ∙ ap tells h′

@@ -3,7 +3,6 @@ ghost use mathlib.Core.Path.{_≡_};
 ghost use Rattle.canvas.specs.Call.{putPixel, fillRect, outcome, call};
 ghost use Rattle.canvas.specs.Look.{pixelAt};
 ghost use Rattle.tuyrashka.specs.Exported.{canvas, clip, color, told, tells};
-
 use canvas::Canvas;
 use canvas::Clip;
 use canvas::Pixel;
@@ -26,8 +25,18 @@ pub extern "C" fn tuyrashka_put_pixel(
 ) -> u32
     ensures { λ r. ⌜ outcome r (now (count .exit)) (now (bytes .exit)) ≡ call (canvas format width height xor) (putPixel x y (color argb) (clip cx cy cw ch)) (now (bytes .entry)) ⌝ }
 {
-    let v = Canvas { format: format, width: width, height: height, xor: xor };
-    let c = Clip { x: cx, y: cy, width: cw, height: ch };
+    let v = Canvas {
+        format: format,
+        width: width,
+        height: height,
+        xor: xor,
+    };
+    let c = Clip {
+        x: cx,
+        y: cy,
+        width: cw,
+        height: ch,
+    };
     let k = words::to_color(3, argb);
     let d = canvas::put_pixel(v, bytes, x, y, k, c);
     *count = d.count();
@@ -54,8 +63,18 @@ pub extern "C" fn tuyrashka_fill_rect(
 ) -> u32
     ensures { λ r. ⌜ outcome r (now (count .exit)) (now (bytes .exit)) ≡ call (canvas format width height xor) (fillRect x y w h (color argb) (clip cx cy cw ch)) (now (bytes .entry)) ⌝ }
 {
-    let v = Canvas { format: format, width: width, height: height, xor: xor };
-    let c = Clip { x: cx, y: cy, width: cw, height: ch };
+    let v = Canvas {
+        format: format,
+        width: width,
+        height: height,
+        xor: xor,
+    };
+    let c = Clip {
+        x: cx,
+        y: cy,
+        width: cw,
+        height: ch,
+    };
     let k = words::to_color(3, argb);
     let d = canvas::fill_rect(v, bytes, x, y, w, h, k, c);
     *count = d.count();
@@ -76,7 +95,12 @@ pub extern "C" fn tuyrashka_get_pixel(
 ) -> u32
     ensures { λ r. ⌜ told r (now (found .exit)) (now (argb .exit)) ≡ tells (pixelAt (canvas format width height xor) (now (bytes .entry)) x y) ⌝ }
 {
-    let v = Canvas { format: format, width: width, height: height, xor: xor };
+    let v = Canvas {
+        format: format,
+        width: width,
+        height: height,
+        xor: xor,
+    };
     let p = canvas::get_pixel(v, bytes, x, y);
     match p {
         Pixel::Refused(r) => {

@@ -14,7 +14,7 @@ use Rattle.canvas.specs.declared.Canvas.{Canvas}
 use Rattle.canvas.specs.Plot.{Point, at, Plot, plot, inks}
 use Rattle.canvas.specs.Clip.{within}
 use Rattle.canvas.specs.Boxes.{select, side, each, fill}
-use Rattle.canvas.specs.Walk.{run, point, row, box}
+use Rattle.canvas.specs.Walk.{point, row, box}
 use Rattle.canvas.proofs.bytes.Places.{area-le}
 use Rattle.canvas.proofs.plot.Paints.{inks-length}
 

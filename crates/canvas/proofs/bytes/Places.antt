@@ -1,5 +1,5 @@
 -- Where the code finds a pixel's bytes, and that what it reads and writes there is the pixel's word.
-use mathlib.Core.Path.{_≡_, refl, sym, ap, _∙_}
+use mathlib.Core.Path.{_≡_, refl, _∙_}
 use mathlib.Core.List.{List}
 use Prim.Native.Nat.{ℕ, zero, suc, _+_, _*_, _^_, _≤_, _<_}
 use native.Mathlib.Omega.{arith}
@@ -26,7 +26,7 @@ unfolding load cells get
 load-2 b o x y h k = let k′ : y ≡ getD b (suc o) 0 = rw add-one at k in omega arith
 
 pub load-4 : (b : List ℕ) (o x y z w : ℕ) → x ≡ getD b o 0 → y ≡ getD b (o + 1) 0 → z ≡ getD b (o + 2) 0 → w ≡ getD b (o + 3) 0
-  → x + 256 * y + 65536 * z + 16777216 * w ≡ load (cells 4 o) b
+    → x + 256 * y + 65536 * z + 16777216 * w ≡ load (cells 4 o) b
 unfolding load cells get
 load-4 b o x y z w h i j k =
     let i′ : y ≡ getD b (suc o) 0 = rw add-one at i in

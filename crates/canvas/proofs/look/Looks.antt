@@ -1,9 +1,9 @@
 -- What a lifted point off the canvas and one on it read as.
-use mathlib.Core.Path.{_≡_, refl, sym, ap, _∙_}
-use mathlib.Core.Bool.{true, false}
+use mathlib.Core.Path.{_≡_, refl, _∙_}
+use mathlib.Core.Bool.{false}
 use mathlib.Core.List.{List}
 use Prim.Native.Nat.{ℕ, _-_, _≤_, _<_}
-use lib.IntN.{ℤ, pos}
+use lib.IntN.{ℤ}
 use lib.ListN.{length}
 use mir.Syntax.{w32}
 use mir.Val.{SFits, toZ, ofZ}
@@ -16,7 +16,7 @@ use Rattle.canvas.specs.declared.Refusal.{Refusal}
 use Rattle.canvas.specs.declared.faults.Verdict.{Verdict}
 use Rattle.canvas.specs.declared.faults.Verdict.the-variants.{Sound, Faulty}
 use Rattle.canvas.specs.Bytes.{form, loadAt}
-use Rattle.canvas.specs.Faults.{number, verdict}
+use Rattle.canvas.specs.Faults.{verdict}
 use Rattle.canvas.specs.Plot.{onCanvas}
 use Rattle.canvas.specs.Look.{statusOf, seenOf, reading, reads, look, pixelAt}
 use Rattle.canvas.specs.Walk.{lifted, lowered}

@@ -1,25 +1,23 @@
 -- From the inner functions to the calls: what a sound canvas and a faulty one answer.
-use mathlib.Core.Path.{_≡_, refl, sym, ap, ap₂, _∙_}
-use mathlib.Core.List.{List, [], _∷_}
-use Prim.Native.Nat.{ℕ, _+_, _<_}
-use native.Mathlib.Omega.{arith}
+use mathlib.Core.Path.{_≡_, refl, sym, ap, _∙_}
+use mathlib.Core.List.{List}
+use Prim.Native.Nat.{ℕ, _+_}
 use native.Mathlib.Nat.{zero-add}
 use lib.ListN.{length}
 use Rattle.words.specs.declared.Color.{Color}
-use Rattle.words.specs.Ink.{plotWord, plotInk, inked}
+use Rattle.words.specs.Ink.{plotInk, inked}
 use Rattle.words.proofs.Laws.{Channels, ink-is}
 use Rattle.canvas.specs.declared.Canvas.{Canvas}
 use Rattle.canvas.specs.declared.Clip.{Clip}
-use Rattle.canvas.specs.declared.Drawn.{Drawn}
 use Rattle.canvas.specs.declared.Drawn.the-variants.{Refused, Done}
 use Rattle.canvas.specs.declared.Refusal.{Refusal}
 use Rattle.canvas.specs.declared.Tally.{Tally}
 use Rattle.canvas.specs.declared.faults.Verdict.{Verdict}
 use Rattle.canvas.specs.declared.faults.Verdict.the-variants.{Sound, Faulty}
 use Rattle.canvas.specs.Bytes.{form}
-use Rattle.canvas.specs.Faults.{number, verdict, Sized}
+use Rattle.canvas.specs.Faults.{verdict, Sized}
 use Rattle.canvas.specs.Plot.{Plot, Point, inks, hits, paint}
-use Rattle.canvas.specs.Call.{outcome, statusOf, countOf, leaves, ruled, drawing, ink}
+use Rattle.canvas.specs.Call.{outcome, statusOf, countOf, leaves, drawing, ink}
 use Rattle.canvas.specs.Walk.{Work, work, drawn, Did}
 use Rattle.canvas.proofs.bytes.Cells.{Bytes}
 use Rattle.canvas.proofs.plot.Paints.{drawn-is, drawn-ink}

@@ -1,9 +1,9 @@
 -- Plots one after the other, and the invariant of every loop over them.
-use mathlib.Core.Path.{_≡_, refl, sym, ap, ap₂, _∙_}
+use mathlib.Core.Path.{_≡_, refl, sym, ap, _∙_}
 use mathlib.Core.List.{List, [], _∷_, _++_}
-use Prim.Native.Nat.{ℕ, zero, suc, _+_, _*_, _-_, _≤_, _<_}
+use Prim.Native.Nat.{ℕ, suc, _+_, _-_, _≤_, _<_}
 use native.Mathlib.Omega.{arith}
-use native.Mathlib.Nat.{le-trans, le-refl}
+use native.Mathlib.Nat.{add-zero}
 use native.Mathlib.Numerals.{add-one}
 use lib.ListN.{length}
 use Rattle.canvas.specs.declared.Canvas.{Canvas}
@@ -12,7 +12,7 @@ use Rattle.canvas.specs.declared.Tally.{Tally}
 use Rattle.canvas.specs.Faults.{Sized}
 use Rattle.canvas.specs.Plot.{Plot, Fate, landed, outside, clipped, fate, Hit, hitOf, touch}
 use Rattle.canvas.specs.Boxes.{each}
-use Rattle.canvas.specs.Walk.{run, note, Work, work, act, drawn, Fits, Ready, Did}
+use Rattle.canvas.specs.Walk.{run, plus, Work, work, act, drawn, Fits, Ready, Did}
 use Rattle.canvas.proofs.bytes.Pixels.{length-store, sized-length}
 
 -- ---- one plot
@@ -24,15 +24,8 @@ did-one v c p f w w′ e h = record { same = rw (e, drawn) h }
 pub work-is : {b b′ : List ℕ} {t t′ : Tally} → b ≡ b′ → t ≡ t′ → work b t ≡ work b′ t′
 work-is {b} {b′} {t} e g = ap (λ (x : List ℕ). work x t) e ∙ ap (work b′) g
 
--- a plot needs room for its note
-act-notes : (v : Canvas) (p : Plot) (f : Fate) (w : Work) → act v p f w .tally ≡ note f (w .tally)
-act-notes v p landed w = refl
-act-notes v p outside w = refl
-act-notes v p clipped w = refl
-
-pub room-one : {v : Canvas} {c : Clip} {p : Plot} {w : Work} (f : Fate) → Ready v c (p ∷ []) w → fate v c p ≡ f → Fits (note f (w .tally))
-unfolding drawn
-room-one {v} {c} {p} {w} f r e = let q : Fits (act v p (fate v c p) w .tally) = r .room in rw (e, act-notes v p f w) at q
+pub plus-none : (t : Tally) → plus t 0 ≡ t
+plus-none t = rw (add-zero (t .landed)) refl
 
 -- ---- plots one after the other
 
@@ -71,6 +64,9 @@ drawn-grows v c (p ∷ ps) w =
     let d = drawn-grows v c ps (act v p (fate v c p) w) in
     (omega arith, omega arith)
 
+pub did-tally : {v : Canvas} {c : Clip} {ps : List Plot} {w : Work} {b : List ℕ} {t u : Tally} → t ≡ u → Did v c ps w (work b u) → Did v c ps w (work b t)
+did-tally {b = b} e d = record { same = ap (work b) e ∙ d .same }
+
 pub did-length : {v : Canvas} {c : Clip} {ps : List Plot} {w w′ : Work} → Did v c ps w w′ → length (w′ .bytes) ≡ length (w .bytes)
 did-length {v} {c} {ps} {w} d = ap (λ (x : Work). length (x .bytes)) (d .same) ∙ drawn-length v c ps w
 
@@ -81,6 +77,9 @@ pub record Left (v : Canvas) (c : Clip) (ps : List Plot) (w : Work) (ps₀ : Lis
 
 pub left-start : {v : Canvas} {c : Clip} {ps : List Plot} {w : Work} → Left v c ps w ps w
 left-start = record { same = refl }
+
+pub left-none : {v : Canvas} {c : Clip} {ps : List Plot} {b : List ℕ} {t : Tally} → Left v c ps (work b (plus t 0)) ps (work b t)
+left-none {v} {c} {ps} {b} {t} = record { same = ap (λ (u : Tally). drawn v c ps (work b u)) (plus-none t) }
 
 left-step : {v : Canvas} {c : Clip} {ps qs ps₀ : List Plot} {w w′ w₀ : Work} → Left v c (ps ++ qs) w ps₀ w₀ → Did v c ps w w′ → Left v c qs w′ ps₀ w₀
 left-step {v} {c} {ps} {qs} {ps₀} {w} l d = record { same = ap (drawn v c qs) (d .same) ∙ sym (drawn-append v c ps qs w) ∙ l .same }
@@ -112,6 +111,13 @@ left-ready {v} {c} {ps} {ps₀} {w} {w₀} l r = record {
   sized = sized-length (left-length l) (r .sized);
   room = omega (arith, r .room, ap (λ (x : Work). x .tally .landed) (l .same));
 }
+
+-- the tally fits at the end, so it does before
+pub ready-fits : {v : Canvas} {c : Clip} {ps ps₀ : List Plot} {w w₀ : Work} → Left v c ps w ps₀ w₀ → Ready v c ps₀ w₀ → Fits (w .tally)
+ready-fits {v} {c} {ps} {ps₀} {w} {w₀} l r = omega (arith, left-ready l r .room, drawn-grows v c ps w .0)
+
+pub did-fits : {v : Canvas} {c : Clip} {ps : List Plot} {w w′ : Work} → Did v c ps w w′ → Ready v c ps w → Fits (w′ .tally)
+did-fits {v} {c} {ps} {w} {w′} d r = omega (arith, r .room, ap (λ (x : Work). x .tally .landed) (d .same))
 
 -- plots from an empty tally, few enough to be counted
 pub ready-few : {v : Canvas} {c : Clip} {ps : List Plot} {b : List ℕ} {t : Tally} → Sized v b → t .landed ≡ 0 → length ps < 18446744073709551616 → Ready v c ps (work b t)

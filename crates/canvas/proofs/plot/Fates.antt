@@ -1,7 +1,7 @@
 -- The fate of a plot, from what the code tests.
-use mathlib.Core.Path.{_≡_, refl, sym, ap, ap₂, _∙_}
+use mathlib.Core.Path.{_≡_, refl}
 use mathlib.Core.Bool.{Bool, true, false, cond}
-use Prim.Native.Nat.{ℕ, suc, _+_, _-_, _≤_, _<_}
+use Prim.Native.Nat.{ℕ, _+_, _-_, _≤_, _<_}
 use native.Mathlib.Omega.{arith}
 use native.Mathlib.Nat.{zero-add}
 use borrow.Author.Tests.{lt-ltb, le-ltb, ltb-true}
@@ -11,7 +11,7 @@ use Rattle.canvas.specs.declared.Canvas.{Canvas}
 use Rattle.canvas.specs.declared.Clip.{Clip}
 use Rattle.canvas.specs.Bytes.{On}
 use Rattle.canvas.specs.Clip.{both, within, inClip}
-use Rattle.canvas.specs.Plot.{Plot, plot, onCanvas, Fate, landed, outside, clipped, judge, fate}
+use Rattle.canvas.specs.Plot.{Plot, plot, onCanvas, landed, outside, clipped, judge, fate}
 use Rattle.canvas.specs.Walk.{lowered}
 use Rattle.canvas.proofs.span.Spans.{both-no}
 use Rattle.canvas.proofs.span.Lifts.{lowered-neg, lowered-pos}

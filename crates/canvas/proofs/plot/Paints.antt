@@ -1,8 +1,8 @@
 -- What plots leave is the paint of the landed ones, and their number; and inks that agree on words paint alike.
-use mathlib.Core.Path.{_≡_, refl, sym, ap, ap₂, _∙_}
+use mathlib.Core.Path.{_≡_, refl, ap, ap₂, _∙_}
 use mathlib.Core.Bool.{Bool, true, false, cond}
-use mathlib.Core.List.{List, [], _∷_, _++_}
-use Prim.Native.Nat.{ℕ, zero, suc, _+_, _≤_, _<_}
+use mathlib.Core.List.{List, [], _∷_}
+use Prim.Native.Nat.{ℕ, suc, _+_, _≤_, _<_}
 use native.Mathlib.Omega.{arith}
 use lib.IntN.{pos, natAbs}
 use lib.ListN.{length}
@@ -14,7 +14,7 @@ use Rattle.canvas.specs.declared.Clip.{Clip}
 use Rattle.canvas.specs.declared.Tally.{Tally}
 use Rattle.canvas.specs.Bytes.{form, loadAt, storeAt}
 use Rattle.canvas.specs.Plot.{Point, Plot, plot, inks, Fate, landed, outside, clipped, fate, Hit, hit, hitOf, keep, hits, touch, paint}
-use Rattle.canvas.specs.Walk.{note, Work, work, act, drawn}
+use Rattle.canvas.specs.Walk.{plus, Work, work, act, drawn}
 use Rattle.canvas.proofs.bytes.Cells.{Bytes}
 use Rattle.canvas.proofs.bytes.Pixels.{bytes-store, load-lt, store-load}
 
@@ -47,13 +47,17 @@ touch-ink : (v : Canvas) (b : List ℕ) (x y : ℕ) (f g : ℕ → ℕ) → Byte
 unfolding touch
 touch-ink v b x y f g h e = ap (storeAt v b x y) (e (loadAt v b x y) (load-lt v b x y h))
 
+pub bit-le : (t : Bool) → cond t 1 0 ≤ 1
+bit-le true = omega arith
+bit-le false = omega arith
+
 -- what `plot_in` leaves is one plot, landed or clipped; storing what was loaded changes nothing
-pub act-inside : (v : Canvas) (x y : ℕ) (i : Ink) (w : Work) (b′ : List ℕ) (t : Tally) (r : Bool) → Bytes (w .bytes)
-  → b′ ≡ touch v (w .bytes) (hit (λ k. cond r (inked i k) k) x y) → t ≡ note (cond r landed clipped) (w .tally)
-  → work b′ t ≡ act v (plot (inked i) (pos x) (pos y)) (cond r landed clipped) w
+pub act-inside : (v : Canvas) (x y : ℕ) (i : Ink) (b b′ : List ℕ) (t : Tally) (n m : ℕ) (r : Bool) → Bytes b
+    → b′ ≡ touch v b (hit (λ k. cond r (inked i k) k) x y) → m ≡ n + cond r 1 0
+    → work b′ (plus t m) ≡ act v (plot (inked i) (pos x) (pos y)) (cond r landed clipped) (work b (plus t n))
 unfolding touch
-act-inside v x y i w b′ t true h e n = ap₂ work e n
-act-inside v x y i w b′ t false h e n = ap₂ work (e ∙ store-load v (w .bytes) x y h) n
+act-inside v x y i b b′ t n m true h e k = ap₂ work e (ap tally (omega arith))
+act-inside v x y i b b′ t n m false h e k = ap₂ work (e ∙ store-load v b x y h) (ap tally (omega arith))
 
 touch-bytes : (v : Canvas) (b : List ℕ) (h : Hit) → Bytes b → Bytes (touch v b h)
 unfolding touch

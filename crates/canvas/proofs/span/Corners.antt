@@ -1,5 +1,5 @@
 -- The corners and extents of two clips, where signed fields arrive as `toZ w (ofZ w x)`.
-use mathlib.Core.Path.{_≡_, refl, sym, ap, _∙_}
+use mathlib.Core.Path.{_≡_, refl, ap, _∙_}
 use mathlib.Core.Bool.{Bool, true, false, cond}
 use Prim.Native.Nat.{ℕ}
 use lib.IntN.{ℤ}
@@ -30,6 +30,6 @@ module _ (a b : ℤ) (sa : SFits w32 a) (sb : SFits w32 b) where
   extent-shared m n r h = rw (toZ-ofZ w32 a sa, toZ-ofZ w32 b sb) at h
 
 pub clip-is : (c d : Clip) (x y : ℤ) (w h : ℕ) → x ≡ larger (c .x) (d .x) → y ≡ larger (c .y) (d .y) → w ≡ shared (c .x) (c .width) (d .x) (d .width) → h ≡ shared (c .y) (c .height) (d .y) (d .height)
-  → _≡_ {A = Clip} (record { x = x; y = y; width = w; height = h }) (intersection c d)
+    → _≡_ {A = Clip} (record { x = x; y = y; width = w; height = h }) (intersection c d)
 unfolding intersection
 clip-is c d x y w h ex ey ew eh = rw (ex, ey, ew, eh) refl

@@ -4,7 +4,7 @@ use mathlib.Core.Bool.{Bool, true, false, cond}
 use mathlib.Core.List.{List, [], _∷_, _++_, append-nil}
 use Prim.Native.Nat.{ℕ, zero, suc, _+_, _-_, _%_, _≤_, _<_, min}
 use native.Mathlib.Omega.{arith}
-use native.Mathlib.Nat.{zero-add, add-zero, suc-add, min-le-left, min-le-right, lt-of-lt-of-le}
+use native.Mathlib.Nat.{zero-add, add-zero, suc-add, min-le-left, min-le-right}
 use native.Mathlib.Decide.{decLt, decLe}
 use borrow.Author.Tests.{lt-ltb, le-ltb, le-leb, lt-leb}
 use lib.Dec.{ltb, leb}
@@ -168,14 +168,14 @@ among t lo end n to h e x l = go (decLt x lo) (decLt x end)
 
 -- what `clamp_span` answers
 pub clamped : (a : ℤ) (len n u from end to : ℕ) → SFits w32 a → u ≡ lifted (toZ w32 (ofZ w32 a)) → from ≡ u - 2147483648 → end ≡ u + len - 2147483648
-  → to ≡ min end n → Clamped a len n from to
+    → to ≡ min end n → Clamped a len n from to
 clamped a len n u from end to s eu ef ee et =
     let h : Holds (λ k. within a len (pos k)) from end = span-holds a len u from end s eu ef ee in
     record { low = omega (arith, lift-is a u s eu, lifted-lt a s); held = rw et (min-le-right end n); same = run-is (λ k. within a len (pos k)) from end n to h et; among = among (λ k. within a len (pos k)) from end n to h et }
 
 -- what `among` answers: r is the difference, which wraps
 pub among-is : (from n x r : ℕ) → from ≤ 2147483648 → n ≤ 32767 → x < 4294967296 → r < 4294967296 → (r + from) % 4294967296 ≡ x
-  → ltb r n ≡ both (leb from x) (ltb x (from + n))
+    → ltb r n ≡ both (leb from x) (ltb x (from + n))
 among-is from n x r hf hn hx hr e = go (decLe from x)
   where
     go : Dec (from ≤ x) → ltb r n ≡ both (leb from x) (ltb x (from + n))
@@ -192,8 +192,11 @@ module _ (v : Canvas) (c : Clip) (y : ℕ) (s : SFits w32 (c .y)) (r : Bool) (e 
 
   pub inner-none : r ≡ false → Inner v c y 0 0
   unfolding inClip
-  inner-none h = record { low = omega arith; few = omega arith;
-      inner = λ x l. none-at x ∙ sym (rw (← down, h) (both-no (within (c .x) (c .width) (pos x)))) }
+  inner-none h = record {
+    low = omega arith;
+    few = omega arith;
+    inner = λ x l. none-at x ∙ sym (rw (← down, h) (both-no (within (c .x) (c .width) (pos x))));
+  }
 
   module _ (from to : ℕ) (t : SFits w32 (c .x)) (h : r ≡ true) (k : Clamped (toZ w32 (ofZ w32 (c .x))) (c .width) (v .width) from to) where
     clip-among : (x : ℕ) → x < v .width → both (leb from x) (ltb x to) ≡ inClip c (pos x) (pos y)

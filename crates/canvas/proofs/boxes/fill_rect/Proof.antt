@@ -3,7 +3,6 @@ use native.Mathlib.Omega.{arith}
 use mathlib.Core.Path.{refl}
 use mir.Syntax.{w32}
 use mir.ValLaws.{toZ-ofZ}
-use Rattle.words.specs.Ink.{inked}
 use Rattle.canvas.specs.Boxes.{fill}
 use Rattle.canvas.specs.Call.{plots}
 use Rattle.canvas.proofs.plot.Draws.{ready-few}

@@ -1,6 +1,5 @@
 -- By the word's size, the word read at the offset is the pixel's.
 use Rattle.canvas.proofs.bytes.Places.{one-byte, two-bytes, four-bytes, in-place, read-is, read-lt}
-use borrow.Author.Needs.{needs}
 use Rattle.canvas.proofs.bytes.load_at.Statement.{statement}
 use Rattle.canvas.proofs.bytes.load_at.Tie as tie
 

@@ -1,11 +1,13 @@
 -- Four tests put a plot outside the canvas; what passes them is a plot at a pixel.
+use native.Mathlib.Omega.{arith}
 use mathlib.Core.Path.{refl}
+use Prim.Native.Nat.{_-_}
 use Rattle.words.specs.Ink.{inked}
 use Rattle.canvas.specs.Plot.{plot, outside}
 use Rattle.canvas.specs.Walk.{lowered, point}
 use Rattle.canvas.proofs.span.Lifts.{lowered-pos}
 use Rattle.canvas.proofs.plot.Fates.{off-left, off-above, off-right, off-below, is-outside}
-use Rattle.canvas.proofs.plot.Draws.{did-one}
+use Rattle.canvas.proofs.plot.Draws.{did-one, did-fits, did-tally, plus-none}
 use borrow.Author.Needs.{needs}
 use Rattle.canvas.proofs.plot.plot_at.Statement.{statement}
 use Rattle.canvas.proofs.plot.plot_at.Tie as tie
@@ -33,14 +35,18 @@ in-clip-requires c κs = search needs
 
 plot-in-requires : tie.Need-plot-in-requires
 unfolding point
-plot-in-requires c κs = (rw (lowered-pos (c .before .before .before .before .before .before .before .before .before .args .p) (c .before .before .before .before .before .before .before .if1 .left), lowered-pos (c .before .before .before .before .before .before .before .before .before .args .q) (c .before .before .before .before .before .before .if2 .left)) at (c .before .before .before .before .before .before .before .before .before .pre), (record { across = c .before .before .before .before .if3 .left; down = c .before .before .if4 .left }, c .before .in-clip .ensures))
+plot-in-requires c κs = (rw (plus-none (c .before .before .before .before .before .before .before .before .before .args .t)) (rw (lowered-pos (c .before .before .before .before .before .before .before .before .before .args .p) (c .before .before .before .before .before .before .before .if1 .left), lowered-pos (c .before .before .before .before .before .before .before .before .before .args .q) (c .before .before .before .before .before .before .if2 .left)) at (c .before .before .before .before .before .before .before .before .before .pre)), (record { across = c .before .before .before .before .if3 .left; down = c .before .before .if4 .left }, (c .before .in-clip .ensures, omega arith)))
+
+landed-more-requires : tie.Need-landed-more-requires
+unfolding point
+landed-more-requires c κs = did-fits (c .before .before .plot-in .ensures .0) (rw (plus-none (c .before .before .before .before .before .before .before .before .before .before .before .before .args .t)) (rw (lowered-pos (c .before .before .before .before .before .before .before .before .before .before .before .before .args .p) (c .before .before .before .before .before .before .before .before .before .before .if1 .left), lowered-pos (c .before .before .before .before .before .before .before .before .before .before .before .before .args .q) (c .before .before .before .before .before .before .before .before .before .if2 .left)) at (c .before .before .before .before .before .before .before .before .before .before .before .before .pre)))
 
 same-length : tie.Need-same-length
 same-length c = search needs
 
 returns-5 : tie.Need-returns-5
 unfolding point
-returns-5 c = rw (lowered-pos (c .before .before .before .before .before .before .before .before .before .before .before .before .args .p) (c .before .before .before .before .before .before .before .before .before .before .if1 .left), lowered-pos (c .before .before .before .before .before .before .before .before .before .before .before .before .args .q) (c .before .before .before .before .before .before .before .before .before .if2 .left)) (c .before .before .plot-in .ensures)
+returns-5 c = rw (lowered-pos (c .before .before .before .before .before .before .before .before .before .before .before .before .before .args .p) (c .before .before .before .before .before .before .before .before .before .before .before .if1 .left), lowered-pos (c .before .before .before .before .before .before .before .before .before .before .before .before .before .args .q) (c .before .before .before .before .before .before .before .before .before .before .if2 .left)) (did-tally (c .landed-more .ensures) (rw (plus-none (c .before .before .before .before .before .before .before .before .before .before .before .before .before .args .t)) at (c .before .before .before .plot-in .ensures .0)))
 
 pub plot-at-spec : {M : Type 1} → statement M
 plot-at-spec =
@@ -54,5 +60,6 @@ plot-at-spec =
     returns-4
     in-clip-requires
     plot-in-requires
+    landed-more-requires
     same-length
     returns-5)

@@ -1,0 +1,93 @@
+-- No two outcomes satisfy the contract of a public function: the readings of an answer tell its cases apart.
+use mathlib.Core.Path.{_≡_, refl, sym, ap, _∙_}
+use mathlib.Core.List.{List}
+use Prim.Native.Nat.{ℕ}
+use denote.Ref.{now}
+use native.Mathlib.Omega.{arith}
+use Rattle.canvas.specs.declared.Refusal.{Refusal}
+use Rattle.canvas.specs.declared.Refusal.the-variants.{Format, Size, Length}
+use Rattle.canvas.specs.declared.Drawn.{Drawn}
+use Rattle.canvas.specs.declared.Drawn.the-variants.{Refused, Done}
+use Rattle.canvas.specs.declared.Pixel.{Pixel}
+use Rattle.canvas.specs.declared.Pixel.the-variants as pixel
+use Rattle.canvas.specs.Faults.{number}
+use Rattle.canvas.specs.Call.{Outcome, statusOf, countOf, leaves}
+use Rattle.canvas.specs.Look.{Reading, seenOf, reads}
+use Rattle.canvas.specs.Look as look
+use Rattle.canvas.proofs.plot.put_pixel.Reads as put-pixel
+use Rattle.canvas.proofs.boxes.fill_rect.Reads as fill-rect
+use Rattle.canvas.proofs.look.get_pixel.Reads as get-pixel
+use Rattle.canvas.proofs.Clip.intersect.Reads as intersect
+use Rattle.canvas.proofs.Refusal.number.Reads as number-of
+use Rattle.canvas.proofs.Drawn.status.Reads as status
+use Rattle.canvas.proofs.Drawn.count.Reads as count
+
+-- ---- refusals and answers, from their numbers
+
+same-number : (r s : Refusal) → number r ≡ number s → r ≡ s
+unfolding number
+same-number Format Format e = refl
+same-number Format Size e = absurd (omega arith)
+same-number Format Length e = absurd (omega arith)
+same-number Size Format e = absurd (omega arith)
+same-number Size Size e = refl
+same-number Size Length e = absurd (omega arith)
+same-number Length Format e = absurd (omega arith)
+same-number Length Size e = absurd (omega arith)
+same-number Length Length e = refl
+
+no-zero : (r : Refusal) → number r ≡ 0 → ⊥
+unfolding number
+no-zero Format e = omega arith
+no-zero Size e = omega arith
+no-zero Length e = omega arith
+
+same-drawn : (d e : Drawn) → statusOf d ≡ statusOf e → countOf d ≡ countOf e → d ≡ e
+unfolding statusOf countOf
+same-drawn (Refused r) (Refused s) p q = ap Refused (same-number r s p)
+same-drawn (Refused r) (Done t) p q = absurd (no-zero r p)
+same-drawn (Done t) (Refused r) p q = absurd (no-zero r (sym p))
+same-drawn (Done t) (Done u) p q = ap (λ (n : ℕ). Done (record { landed = n })) q
+
+same-pixel : (p q : Pixel) → look.statusOf p ≡ look.statusOf q → seenOf p ≡ seenOf q → p ≡ q
+unfolding look.statusOf seenOf
+same-pixel (pixel.Refused r) (pixel.Refused s) e f = ap pixel.Refused (same-number r s e)
+same-pixel (pixel.Refused r) pixel.Nothing e f = absurd (no-zero r e)
+same-pixel (pixel.Refused r) (pixel.Of c) e f = absurd (no-zero r e)
+same-pixel pixel.Nothing (pixel.Refused s) e f = absurd (no-zero s (sym e))
+same-pixel pixel.Nothing pixel.Nothing e f = refl
+same-pixel pixel.Nothing (pixel.Of c) e f = absurd (let z : _≡_ {A = ℕ} 0 1 = cc in omega arith)
+same-pixel (pixel.Of c) (pixel.Refused s) e f = absurd (no-zero s (sym e))
+same-pixel (pixel.Of c) pixel.Nothing e f = absurd (let z : _≡_ {A = ℕ} 0 1 = cc in omega arith)
+same-pixel (pixel.Of c) (pixel.Of d) e f = cc
+
+-- what leaves the same outcome is the same answer and the same bytes
+leaves-same : (d e : Drawn) (b b′ : List ℕ) → leaves d b ≡ leaves e b′ → (d ≡ e) × (b ≡ b′)
+leaves-same d e b b′ h =
+    (same-drawn d e (ap (λ (o : Outcome). o .status) h) (ap (λ (o : Outcome). o .count) h), ap (λ (o : Outcome). o .bytes) h)
+
+reads-same : (p q : Pixel) → reads p ≡ reads q → p ≡ q
+reads-same p q h = same-pixel p q (ap (λ (r : Reading). r .status) h) (ap (λ (r : Reading). r .color) h)
+
+-- ---- the public functions
+
+pub put-pixel-determined : (κs : _) (a : _) (s s' : _) (r r' : _) → put-pixel.Post κs a r s → put-pixel.Post κs a r' s' → (r ≡ r') × (now (s .1 .0) ≡ now (s' .1 .0))
+put-pixel-determined κs a s s' r r' p q = leaves-same r r' (now (s .1 .0)) (now (s' .1 .0)) (p ∙ sym q)
+
+pub fill-rect-determined : (κs : _) (a : _) (s s' : _) (r r' : _) → fill-rect.Post κs a r s → fill-rect.Post κs a r' s' → (r ≡ r') × (now (s .1 .0) ≡ now (s' .1 .0))
+fill-rect-determined κs a s s' r r' p q = leaves-same r r' (now (s .1 .0)) (now (s' .1 .0)) (p ∙ sym q)
+
+pub get-pixel-determined : (κs : _) (a : _) (s s' : _) (r r' : _) → get-pixel.Post κs a r s → get-pixel.Post κs a r' s' → r ≡ r'
+get-pixel-determined κs a s s' r r' p q = reads-same r r' (p ∙ sym q)
+
+pub intersect-determined : (κs : _) (a : _) (s s' : _) (r r' : _) → intersect.Post κs a r s → intersect.Post κs a r' s' → r ≡ r'
+intersect-determined κs a s s' r r' p q = p ∙ sym q
+
+pub number-determined : (κs : _) (a : _) (s s' : _) (r r' : _) → number-of.Post κs a r s → number-of.Post κs a r' s' → r ≡ r'
+number-determined κs a s s' r r' p q = p ∙ sym q
+
+pub status-determined : (κs : _) (a : _) (s s' : _) (r r' : _) → status.Post κs a r s → status.Post κs a r' s' → r ≡ r'
+status-determined κs a s s' r r' p q = p ∙ sym q
+
+pub count-determined : (κs : _) (a : _) (s s' : _) (r r' : _) → count.Post κs a r s → count.Post κs a r' s' → r ≡ r'
+count-determined κs a s s' r r' p q = p ∙ sym q

@@ -1,0 +1,10 @@
+pub mod Calls
+pub mod Cases
+pub mod Determined
+pub mod Fills
+pub mod Hashes
+pub mod Numbers
+pub mod Reading
+pub mod Seeds
+pub mod Signs
+pub mod Texts

@@ -1,0 +1,145 @@
+-- Hex digits are read two by two: the bytes so far stand before those to come.
+use mathlib.Core.List.{List, [], _∷_, _++_, append-assoc, append-nil}
+use mathlib.Core.Path.{_≡_, refl, sym, _∙_, ap}
+use Prim.Native.Nat.{ℕ, _+_, _*_, _<_, _≤_}
+use native.Mathlib.Numerals.{add-one}
+use native.Mathlib.Omega.{arith}
+use lib.ListN.{length, getD}
+use borrow.Author.Tests.{lt-ltb, le-ltb, eq-eqb, ne-eqb, eqb-false}
+use Rattle.cases.specs.Line.{Left, lost, Value, value, none, Got, got, after, next, firstOf}
+use Rattle.cases.specs.Place.{leftAt, pairs, Within, Fills}
+use Rattle.cases.specs.Seed.{Sown, counted, given, nibble, byte, before, hexes, givenBy, givenHex, exact, zeros, z, countedBy, seedOf}
+use Rattle.cases.specs.Number.{numberOf, named}
+use Rattle.cases.specs.declared.seed.Seed.{Seed}
+use Rattle.cases.specs.declared.seed.Seed.the-variants.{Bytes}
+use Rattle.cases.proofs.Reading.{letter, alike, refused, barred, short, first-found, first-missed}
+
+-- What is still to be read after the first bytes.
+abbrev pub rest : List ℕ → List ℕ → Value Sown
+rest p w = givenBy (before p (hexes w))
+
+before-before : (p q : List ℕ) (v : Value (List ℕ)) → before p (before q v) ≡ before (p ++ q) v
+unfolding before
+before-before p q (value bs) = rw append-assoc
+before-before p q none = refl
+
+before-none : (v : Value (List ℕ)) → before [] v ≡ v
+unfolding before
+before-none (value bs) = refl
+before-none none = refl
+
+-- 32 is no hex digit.
+pub no-space : (b : ℕ) → nibble b < 16 → b ≡ 32 → ⊥
+unfolding nibble
+no-space b h e = let l : 16 < 16 = rw e at h in omega arith
+
+pub opened : (l : Left) → next (counted 0) givenHex l ≡ next (counted 0) (rest []) l
+unfolding givenHex
+opened l = alike (counted 0) givenHex (rest []) (λ w. ap givenBy (sym (before-none (hexes w)))) l
+
+pub closed : (p : List ℕ) (l : Left) → after (counted 0) (rest p []) l ≡ got (given p) l
+unfolding hexes before givenBy after
+closed p l = rw append-nil
+
+module _ (p line : List ℕ) (i : ℕ) (h : i < length line) (s : getD line i 0 ≡ 32 → ⊥) where
+  into : next (counted 0) (rest p) (leftAt line i) ≡ next (counted 0) (λ (w : List ℕ). rest p (getD line i 0 ∷ w)) (leftAt line (i + 1))
+  into = letter (counted 0) (rest p) line i h s
+
+  pub odd : length line ≤ i + 1 → next (counted 0) (rest p) (leftAt line i) ≡ got (counted 0) lost
+  unfolding hexes before givenBy
+  odd l = into ∙ short (counted 0) (λ (w : List ℕ). rest p (getD line i 0 ∷ w)) line (i + 1) refl l
+
+  no-high : 16 ≤ nibble (getD line i 0) → (w : List ℕ) → rest p (getD line i 0 ∷ w) ≡ none
+  unfolding hexes before givenBy
+  no-high g [] = refl
+  no-high g (b ∷ w) = rw (le-ltb (nibble (getD line i 0)) 16 g)
+
+  pub high : 16 ≤ nibble (getD line i 0) → next (counted 0) (rest p) (leftAt line i) ≡ got (counted 0) lost
+  high g = into ∙ refused (counted 0) (λ (w : List ℕ). rest p (getD line i 0 ∷ w)) (no-high g) (leftAt line (i + 1))
+
+  pub low : nibble (getD line i 0) < 16 → i + 1 < length line → 16 ≤ nibble (getD line (i + 1) 0)
+      → next (counted 0) (rest p) (leftAt line i) ≡ got (counted 0) lost
+  unfolding hexes before givenBy
+  low a m b =
+      into ∙
+      barred (counted 0) (λ (w : List ℕ). rest p (getD line i 0 ∷ w)) line (i + 1) refl
+      (λ w. rw (lt-ltb (nibble (getD line i 0)) 16 a, le-ltb (nibble (getD line (i + 1) 0)) 16 b)) m
+
+  both : nibble (getD line i 0) < 16 → nibble (getD line (i + 1) 0) < 16 → (w : List ℕ)
+      → rest p (getD line i 0 ∷ getD line (i + 1) 0 ∷ w) ≡ rest (p ++ (byte (getD line i 0) (getD line (i + 1) 0) ∷ [])) w
+  unfolding hexes
+  both a b w =
+      rw (lt-ltb (nibble (getD line i 0)) 16 a, lt-ltb (nibble (getD line (i + 1) 0)) 16 b)
+      (ap givenBy (before-before p (byte (getD line i 0) (getD line (i + 1) 0) ∷ []) (hexes w)))
+
+  pub pair : nibble (getD line i 0) < 16 → i + 1 < length line → nibble (getD line (i + 1) 0) < 16
+      → next (counted 0) (rest p) (leftAt line i)
+      ≡ next (counted 0) (rest (p ++ (byte (getD line i 0) (getD line (i + 1) 0) ∷ []))) (leftAt line (i + 1 + 1))
+  pair a m b =
+      into ∙
+      letter (counted 0) (λ (w : List ℕ). rest p (getD line i 0 ∷ w)) line (i + 1) m (no-space (getD line (i + 1) 0) b) ∙
+      alike (counted 0) (λ (w : List ℕ). rest p (getD line i 0 ∷ getD line (i + 1) 0 ∷ w))
+      (rest (p ++ (byte (getD line i 0) (getD line (i + 1) 0) ∷ []))) (both a b) (leftAt line (i + 1 + 1))
+
+-- An x, and then hex.
+pub marked : (line : List ℕ) (i : ℕ) → i < length line → getD line i 0 ≡ 120
+    → next (counted 0) exact (leftAt line i) ≡ next (counted 0) givenHex (leftAt line (i + 1))
+unfolding exact
+marked line i h e =
+    letter (counted 0) exact line i h (λ (p : getD line i 0 ≡ 32). eqb-false 120 32 refl (sym e ∙ p)) ∙
+    alike (counted 0) (λ (w : List ℕ). exact (getD line i 0 ∷ w)) givenHex (λ w. rw (eq-eqb (getD line i 0) 120 e)) (leftAt line (i + 1))
+
+pub unmarked : (line : List ℕ) (i : ℕ) → i < length line → (getD line i 0 ≡ 120 → ⊥) → next (counted 0) exact (leftAt line i) ≡ got (counted 0) lost
+unfolding exact
+unmarked line i h e = barred (counted 0) exact line i refl (λ w. rw (ne-eqb (getD line i 0) 120 e)) h
+
+pub pairs-more : (line : List ℕ) (from n i : ℕ) → i ≡ from + 2 * n
+    → pairs line from (n + 1) ≡ pairs line from n ++ (byte (getD line i 0) (getD line (i + 1) 0) ∷ [])
+unfolding pairs
+pairs-more line from n i e = rw (add-one n, e)
+
+-- What is kept of hex digits.
+module _ {seed : Seed} {from n : ℕ} (e : seed ≡ Bytes from n) where
+  pub within : (line : List ℕ) → Within line seed → from + 2 * n ≤ length line
+  unfolding Within
+  within line w = rw e at w
+
+  pub fills : (k : ℕ) → Fills seed k → k ≡ n
+  unfolding Fills
+  fills k f = rw e at f
+
+-- Two digits are a byte more.
+pub onward : (line : List ℕ) (at n i : ℕ) → i ≡ at + 2 * n → i < length line → (getD line i 0 ≡ 32 → ⊥) → nibble (getD line i 0) < 16
+    → i + 1 < length line → nibble (getD line (i + 1) 0) < 16
+    → next (counted 0) (rest (pairs line at n)) (leftAt line i) ≡ next (counted 0) (rest (pairs line at (n + 1))) (leftAt line (i + 2))
+onward line at n i e h s a m b =
+    let j : i + 1 + 1 ≡ i + 2 = omega arith in
+    pair (pairs line at n) line i h s a m b ∙
+    ap (λ (p : List ℕ). next (counted 0) (rest p) (leftAt line (i + 1 + 1))) (sym (pairs-more line at n i e)) ∙
+    ap (λ (k : ℕ). next (counted 0) (rest (pairs line at (n + 1))) (leftAt line k)) j
+
+-- The kinds of a seed in turn.
+abbrev others : Left → Got Sown
+others l = firstOf (next (counted 0) exact l) (countedBy (numberOf 4294967295 l))
+
+module _ (line : List ℕ) (l : Left) where
+  pub is-zeros : (i : ℕ) → leftAt line i ≡ named z l → i < length line + 2 → got zeros (leftAt line i) ≡ seedOf l
+  unfolding seedOf
+  is-zeros i e h = sym (first-found zeros line i _ h) ∙ ap (λ (k : Left). firstOf (got zeros k) (others l)) e
+
+  no-zeros : (i : ℕ) → leftAt line i ≡ named z l → length line + 2 ≤ i → others l ≡ seedOf l
+  unfolding seedOf
+  no-zeros i e h = sym (first-missed zeros line i (others l) h) ∙ ap (λ (k : Left). firstOf (got zeros k) (others l)) e
+
+  pub is-exact : (i j : ℕ) (s : Sown) → leftAt line i ≡ named z l → length line + 2 ≤ i → got s (leftAt line j) ≡ next (counted 0) exact l
+      → j < length line + 2 → got s (leftAt line j) ≡ seedOf l
+  is-exact i j s e h f k =
+      sym (first-found s line j (countedBy (numberOf 4294967295 l)) k) ∙
+      ap (λ (g : Got Sown). firstOf g (countedBy (numberOf 4294967295 l))) f ∙ no-zeros i e h
+
+  pub is-counted : (i j n k : ℕ) (s : Sown) → leftAt line i ≡ named z l → length line + 2 ≤ i → got s (leftAt line j) ≡ next (counted 0) exact l
+      → length line + 2 ≤ j → got n (leftAt line k) ≡ numberOf 4294967295 l → got (counted n) (leftAt line k) ≡ seedOf l
+  unfolding countedBy
+  is-counted i j n k s e h f m g =
+      ap countedBy g ∙ sym (first-missed s line j (countedBy (numberOf 4294967295 l)) m) ∙
+      ap (λ (g : Got Sown). firstOf g (countedBy (numberOf 4294967295 l))) f ∙ no-zeros i e h

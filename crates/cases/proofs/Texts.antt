@@ -1,0 +1,141 @@
+-- Texts put one behind the other are one text put once.
+use mathlib.Core.List.{List, [], _∷_, _++_}
+use mathlib.Core.Path.{_≡_, refl, sym, _∙_, ap}
+use Prim.Native.Nat.{ℕ, zero, suc, _+_, _-_, _/_, _%_, _<_, _≤_}
+use native.Mathlib.Omega.{arith}
+use lib.ListN.{length, take, getD, set, length-append, length-set}
+use lib.Seq.{set-comm, take-suc, length-take-le}
+use native.Mathlib.Nat.{zero-add}
+use native.Mathlib.Numerals.{add-one, one-add}
+use lib.Dec.{ltb, lit≤}
+use mathlib.Core.Bool.{Bool, true, false, cond}
+use borrow.Author.Tests.{lt-ltb, le-ltb, ltb-false}
+use Rattle.cases.specs.Answer.{glyph, spelled, places, decimal, hex, nameText, statusText, foundText, hashText, placed, lineOf, answered}
+use Rattle.cases.specs.Place.{Wrote}
+use Rattle.cases.specs.declared.answer.Name.{Name}
+use Rattle.cases.specs.declared.answer.Name.the-variants.{Put, Get, Fill}
+use Rattle.cases.specs.declared.answer.Found.{Found}
+use Rattle.cases.specs.declared.answer.Found.the-variants.{Count, Argb, Nothing}
+use Rattle.cases.specs.declared.answer.Answer.{Answer}
+
+pub length-placed : (d : List ℕ) (at : ℕ) (t : List ℕ) → length (placed d at t) ≡ length d
+unfolding placed
+length-placed d at [] = refl
+length-placed d at (b ∷ t) = length-placed (set d at b) (at + 1) t ∙ length-set d at b
+
+-- A text behind a text.
+pub placed-placed : (d : List ℕ) (at : ℕ) (t u : List ℕ) (m : ℕ) → m ≡ at + length t → placed (placed d at t) m u ≡ placed d at (t ++ u)
+unfolding placed
+placed-placed d at [] u m e = let z : m ≡ at = omega arith in ap (λ (k : ℕ). placed d k u) z
+placed-placed d at (b ∷ t) u m e = placed-placed (set d at b) (at + 1) t u m (omega arith)
+
+pub wrote : (t u d d' d'' : List ℕ) (at m n : ℕ) → Wrote t d at d' m → Wrote u d' m d'' n → Wrote (t ++ u) d at d'' n
+wrote t u d d' d'' at m n v w =
+    record {
+      same = w .same ∙ ap (λ (x : List ℕ). placed x m u) (v .same) ∙ placed-placed d at t u m (v .to);
+      to = w .to ∙ ap (λ (k : ℕ). k + length u) (v .to) ∙ (rw length-append (omega arith));
+    }
+
+-- A byte put before a text that ends where it stands is that text's last.
+pub byte-before : (d : List ℕ) (at : ℕ) (s : List ℕ) (v j : ℕ) → j ≡ at + length s → placed (set d j v) at s ≡ placed d at (s ++ (v ∷ []))
+unfolding placed
+byte-before d at [] v j e = let z : j ≡ at = omega arith in ap (λ (k : ℕ). set d k v) z
+byte-before d at (a ∷ s) v j e =
+    ap (λ (x : List ℕ). placed x (at + 1) s) (set-comm d j at v a (λ (z : j ≡ at). omega arith)) ∙
+    byte-before (set d at a) (at + 1) s v j (omega arith)
+
+pub letter-behind : (d : List ℕ) (at : ℕ) (t : List ℕ) (i : ℕ) → i < length t
+    → set (placed d at (take i t)) (at + i) (getD t i 0) ≡ placed d at (take (i + 1) t)
+unfolding placed
+letter-behind d at t i h =
+    placed-placed d at (take i t) (getD t i 0 ∷ []) (at + i) (omega (arith, length-take-le i t (omega arith))) ∙
+    ap (placed d at) (sym (ap (λ (k : ℕ). take k t) (add-one i) ∙ take-suc t i 0 h))
+
+pub length-spelled : (base k n : ℕ) → length (spelled base k n) ≡ k
+unfolding spelled
+length-spelled base zero n = refl
+length-spelled base (suc k) n = rw (length-append, length-spelled base k (n / base)) (omega arith)
+
+-- The last digit put is the last of the text; the others are still to come.
+pub digit-before : (d : List ℕ) (at base i n g : ℕ) → 0 < i → g ≡ glyph (n % base)
+    → placed (set d (at + (i - 1)) g) at (spelled base (i - 1) (n / base)) ≡ placed d at (spelled base i n)
+unfolding spelled
+digit-before d at base zero n g h e = let z : ⊥ = omega arith in absurd z
+digit-before d at base (suc i) n g h e =
+    let z : suc i - 1 ≡ i = omega arith in
+    rw (z, e)
+    (byte-before d at (spelled base i (n / base)) (glyph (n % base)) (at + i) (ap (λ (k : ℕ). at + k) (sym (length-spelled base i (n / base)))))
+
+pub all-digits : (d : List ℕ) (at base i n : ℕ) {whole : List ℕ} → i ≤ 0 → placed d at (spelled base i n) ≡ whole → d ≡ whole
+unfolding placed spelled
+all-digits d at base zero n h e = e
+all-digits d at base (suc i) n h e = let z : ⊥ = omega arith in absurd z
+
+-- A number of ten or more has one place more than its tenth.
+pub place-more : (k n : ℕ) → k < 20 → 10 ≤ n → places (20 - k) n ≡ 1 + places (20 - (k + 1)) (n / 10)
+unfolding places
+place-more k n h t =
+    let z : 20 - k ≡ suc (20 - (k + 1)) = omega arith in rw (z, le-ltb n 10 t) (sym (one-add (places (20 - (k + 1)) (n / 10))))
+
+pub place-last : (k n : ℕ) → k < 20 → n < 10 → places (20 - k) n ≡ 1
+unfolding places
+place-last k n h t = let z : 20 - k ≡ suc (20 - (k + 1)) = omega arith in rw (z, lt-ltb n 10 t)
+
+pub place-end : (k n : ℕ) → 20 ≤ k → places (20 - k) n ≡ 1
+unfolding places
+place-end k n h = let z : 20 - k ≡ 0 = omega arith in rw z
+
+pub answered-is : (a : Answer) (d d' : List ℕ) (r : ℕ) → 96 ≤ length d → Wrote (lineOf a) d 0 d' r → (r, d') ≡ answered a d
+unfolding answered
+answered-is a d d' r h w =
+    let z : r ≡ length (lineOf a) = w .to ∙ zero-add (length (lineOf a)) in
+    let e : d' ≡ placed d 0 (lineOf a) = w .same in rw (le-ltb (length d) 96 h, z, e)
+
+-- No line is longer than 96 bytes.
+places-most : (k n : ℕ) → places k n ≤ k + 1
+unfolding places
+places-most zero n = omega arith
+places-most (suc k) n = fewer (ltb n 10) (places-most k (n / 10))
+  where
+    fewer : (b : Bool) → places k (n / 10) ≤ k + 1 → cond b 1 (suc (places k (n / 10))) ≤ suc k + 1
+    fewer true h = omega arith
+    fewer false h = omega arith
+
+decimal-most : (n : ℕ) → length (decimal n) ≤ 20
+unfolding decimal
+decimal-most n = omega (arith, length-spelled 10 (places 19 n) n, places-most 19 n)
+
+name-most : (n : Name) → length (nameText n) ≤ 8
+unfolding nameText
+name-most Put = lit≤ tt
+name-most Get = lit≤ tt
+name-most Fill = lit≤ tt
+
+status-most : (n : ℕ) → length (statusText n) ≤ 28
+unfolding statusText
+status-most n = rw length-append (omega (arith, decimal-most n))
+
+found-most : (f : Found) → length (foundText f) ≤ 27
+unfolding foundText
+found-most (Count n) = rw length-append (omega (arith, decimal-most n))
+found-most (Argb n) = rw length-append (omega (arith, decimal-most n))
+found-most Nothing = lit≤ tt
+
+hash-is : (h : ℕ) → length (hashText h) ≡ 23
+unfolding hashText hex
+hash-is h = rw (length-append, length-append, length-spelled 16 16 h)
+
+line-most : (a : Answer) → length (lineOf a) ≤ 96
+unfolding lineOf
+line-most a =
+    simp length-append
+    (omega (arith, name-most (a .name), status-most (a .status), found-most (a .found), hash-is (a .hash)))
+
+-- So what `write` answers is within the buffer.
+pub answered-within : (a : Answer) (d : List ℕ) → answered a d .0 ≤ length d
+unfolding answered
+answered-within a d = within (ltb (length d) 96) (ltb-false (length d) 96)
+  where
+    within : (b : Bool) → (b ≡ false → 96 ≤ length d) → cond {A = ℕ × List ℕ} b (0, d) (length (lineOf a), placed d 0 (lineOf a)) .0 ≤ length d
+    within true h = omega arith
+    within false h = omega (arith, h refl, line-most a)

@@ -1,0 +1,78 @@
+-- `put_found` puts the words of its case.
+use native.Mathlib.Omega.{arith}
+use borrow.Author.Needs.{needs}
+use Rattle.cases.specs.Answer.{foundText}
+use Rattle.cases.proofs.answer.put_found.Statement.{statement}
+use Rattle.cases.proofs.answer.put_found.Tie as tie
+
+enum-known-f : tie.Need-enum-known-f
+enum-known-f c = search needs
+
+slice-aggregate-put-field : tie.Need-slice-aggregate-put-field
+slice-aggregate-put-field c = search needs
+
+put-field-requires : tie.Need-put-field-requires
+put-field-requires c κs = search needs
+
+enum-known-f-2 : tie.Need-enum-known-f-2
+enum-known-f-2 c = search needs
+
+slice-aggregate-put-field-2 : tie.Need-slice-aggregate-put-field-2
+slice-aggregate-put-field-2 c = search needs
+
+cast-put-field : tie.Need-cast-put-field
+cast-put-field c = search needs
+
+put-field-requires-2 : tie.Need-put-field-requires-2
+put-field-requires-2 c κs = search needs
+
+enum-told : tie.Need-enum-told
+enum-told c = search needs
+
+slice-aggregate-put-text : tie.Need-slice-aggregate-put-text
+slice-aggregate-put-text c = search needs
+
+put-text-requires : tie.Need-put-text-requires
+put-text-requires c κs = search needs
+
+same-length : tie.Need-same-length
+same-length c = search needs
+
+returns : tie.Need-returns
+unfolding foundText
+returns c = (rw (c .before .before .before .before .before .before .f .given .1) (c .before .before .put-field .ensures .0), omega (arith, c .before .before .put-field .ensures .1))
+
+same-length-2 : tie.Need-same-length-2
+same-length-2 c = search needs
+
+returns-2 : tie.Need-returns-2
+unfolding foundText
+returns-2 c = (rw (c .before .before .before .before .before .before .f2 .given .1) (c .before .before .put-field2 .ensures .0), omega (arith, c .before .before .put-field2 .ensures .1))
+
+same-length-3 : tie.Need-same-length-3
+same-length-3 c = search needs
+
+returns-3 : tie.Need-returns-3
+unfolding foundText
+returns-3 c = (rw (c .before .before .before .before .before .enum-told .given .1) (c .before .before .put-text .ensures), omega (arith, c .before .before .put-text .ensures .to))
+
+pub put-found-spec : {M : Type 1} → statement M
+put-found-spec =
+    tie.close
+    (tie.spec
+    enum-known-f
+    slice-aggregate-put-field
+    put-field-requires
+    enum-known-f-2
+    slice-aggregate-put-field-2
+    cast-put-field
+    put-field-requires-2
+    enum-told
+    slice-aggregate-put-text
+    put-text-requires
+    same-length
+    returns
+    same-length-2
+    returns-2
+    same-length-3
+    returns-3)

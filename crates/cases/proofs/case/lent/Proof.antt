@@ -1,0 +1,58 @@
+-- `lent` counts by the seed's kind.
+use mathlib.Core.Path.{refl, sym, _∙_, ap}
+use borrow.Author.Needs.{needs}
+use Rattle.cases.specs.Case.{lent, fitting, capped}
+use Rattle.cases.specs.Place.{sown, Fills}
+use Rattle.cases.specs.declared.seed.Seed.{Seed}
+use Rattle.cases.proofs.Cases.{length-pairs}
+use Rattle.cases.proofs.case.lent.Statement.{statement}
+use Rattle.cases.proofs.case.lent.Tie as tie
+
+enum-told : tie.Need-enum-told
+enum-told c = search needs
+
+held-requires : tie.Need-held-requires
+held-requires c κs = search needs
+
+enum-told-2 : tie.Need-enum-told-2
+enum-told-2 c = search needs
+
+held-requires-2 : tie.Need-held-requires-2
+held-requires-2 c κs = search needs
+
+enum-known-seed : tie.Need-enum-known-seed
+enum-known-seed c = search needs
+
+returns : tie.Need-returns
+unfolding lent sown Fills
+returns c =
+    let a = c .before .before .before .before .args in
+    let enum-told = c .before .enum-told in
+    (c .held .ensures ∙ sym (ap (λ (s : Seed). capped (a .room) (lent (a .canvas) (sown (a .line .now) s))) (enum-told .given .1)), rw (enum-told .given .1) tt)
+
+returns-2 : tie.Need-returns-2
+unfolding lent sown Fills
+returns-2 c =
+    let a = c .before .before .before .before .args in
+    let enum-told2 = c .before .enum-told2 in
+    (c .held2 .ensures ∙ sym (ap (λ (s : Seed). capped (a .room) (lent (a .canvas) (sown (a .line .now) s))) (enum-told2 .given .1)), rw (enum-told2 .given .1) tt)
+
+returns-3 : tie.Need-returns-3
+unfolding lent sown capped Fills
+returns-3 c =
+    let a = c .before .before .before .before .args in
+    let seed = c .before .seed in
+    (ap (fitting (a .room)) (sym (length-pairs (a .line .now) (seed .given .0 .0) (seed .given .0 .1 .0))) ∙ sym (ap (λ (s : Seed). capped (a .room) (lent (a .canvas) (sown (a .line .now) s))) (seed .given .1)), rw (seed .given .1) refl)
+
+pub lent-spec : {M : Type 1} → statement M
+lent-spec =
+    tie.close
+    (tie.spec
+    enum-told
+    held-requires
+    enum-told-2
+    held-requires-2
+    enum-known-seed
+    returns
+    returns-2
+    returns-3)

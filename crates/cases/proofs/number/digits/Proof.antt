@@ -1,0 +1,138 @@
+-- `digits` reads a number from its first digit on: what is left to read, after the value so far, is what was there to read.
+use mathlib.Core.Path.{_≡_, refl, sym, _∙_}
+use Prim.Native.Nat.{_≤_, _-_}
+use native.Mathlib.Omega.{arith}
+use lib.ListN.{length}
+use borrow.Author.Needs.{needs}
+use Rattle.cases.specs.Line.{next, after}
+use Rattle.cases.specs.Place.{leftAt}
+use Rattle.cases.specs.Number.{digits}
+use Rattle.cases.proofs.Reading.{space, last, losing}
+use Rattle.cases.proofs.Numbers.{digit, low, high, large}
+use Rattle.cases.proofs.number.digits.Statement.{statement}
+use Rattle.cases.proofs.number.digits.Tie as tie
+
+abbrev Inv-loop : tie.InvT-loop
+Inv-loop line at most limit value₀ i₀ value i = (i ≤ length line) × (value ≤ most) × (next 0 (digits most 0) (leftAt line at) ≡ next 0 (digits most value) (leftAt line i))
+
+abbrev μ-loop : tie.MeasureT-loop
+μ-loop line at most limit value₀ i₀ value i = length line - i
+
+loop-holds : tie.Need-loop-holds Inv-loop μ-loop
+loop-holds c = (c .before .pre, omega arith, refl)
+
+shared-slice-read-wide : tie.Need-shared-slice-read-wide Inv-loop μ-loop
+shared-slice-read-wide c = search needs
+
+wide-requires : tie.Need-wide-requires Inv-loop μ-loop
+wide-requires c κs = search needs
+
+cast-t12 : tie.Need-cast-t12 Inv-loop μ-loop
+cast-t12 c = omega (arith, c .before .before .before .before .before .before .fits .most)
+
+add-t13 : tie.Need-add-t13 Inv-loop μ-loop
+add-t13 c = search needs
+
+returns : tie.Need-returns Inv-loop μ-loop
+unfolding after digits
+returns c =
+    let a = c .before .before .before .before .before .before .args in
+    let l = c .before .before .before .before .loop in
+    (sym (l .inv .2 ∙ space 0 (digits (a .most) (l .value)) (a .line .now) (l .i) (c .before .before .before .loop-test .taken) (sym (c .before .wide .ensures) ∙ c .if1 .taken)), l .inv .1)
+
+add-t15 : tie.Need-add-t15 Inv-loop μ-loop
+add-t15 c = search needs
+
+returns-2 : tie.Need-returns-2 Inv-loop μ-loop
+returns-2 c =
+    let a = c .before .before .before .before .before .before .before .args in
+    let l = c .before .before .before .before .before .loop in
+    let wide = c .before .before .wide in
+    (losing 0 (a .line .now) (l .inv .2 ∙ low (a .most) (l .value) (a .line .now) (l .i) (wide .result) (c .before .before .before .before .loop-test .taken) (wide .ensures) (c .before .if1 .left) (c .if2 .taken)), omega arith)
+
+add-t17 : tie.Need-add-t17 Inv-loop μ-loop
+add-t17 c = search needs
+
+returns-3 : tie.Need-returns-3 Inv-loop μ-loop
+returns-3 c =
+    let a = c .before .before .before .before .before .before .before .before .args in
+    let l = c .before .before .before .before .before .before .loop in
+    let wide = c .before .before .before .wide in
+    (losing 0 (a .line .now) (l .inv .2 ∙ high (a .most) (l .value) (a .line .now) (l .i) (wide .result) (c .before .before .before .before .before .loop-test .taken) (wide .ensures) (c .before .before .if1 .left) (c .before .if2 .left) (c .if3 .taken)), omega arith)
+
+mul-if4 : tie.Need-mul-if4 Inv-loop μ-loop
+mul-if4 c = omega (arith, c .before .before .before .before .before .before .before .before .fits .most)
+
+add-if4 : tie.Need-add-if4 Inv-loop μ-loop
+add-if4 c = omega (arith, c .before .before .before .before .before .before .before .before .fits .most)
+
+add-t22 : tie.Need-add-t22 Inv-loop μ-loop
+add-t22 c = search needs
+
+returns-4 : tie.Need-returns-4 Inv-loop μ-loop
+returns-4 c =
+    let a = c .before .before .before .before .before .before .before .before .before .args in
+    let l = c .before .before .before .before .before .before .before .loop in
+    let wide = c .before .before .before .before .wide in
+    (losing 0 (a .line .now) (l .inv .2 ∙ large (a .most) (l .value) (a .line .now) (l .i) (wide .result) (c .before .before .before .before .before .before .loop-test .taken) (wide .ensures) (c .before .before .before .if1 .left) (c .before .before .if2 .left) (c .before .if3 .left) (c .if4 .taken)), omega arith)
+
+mul-value : tie.Need-mul-value Inv-loop μ-loop
+mul-value c = omega (arith, c .before .before .before .before .before .before .before .before .before .fits .most)
+
+add-value : tie.Need-add-value Inv-loop μ-loop
+add-value c = omega (arith, c .before .before .before .before .before .before .before .before .before .fits .most)
+
+add-i : tie.Need-add-i Inv-loop μ-loop
+add-i c = search needs
+
+loop-less : tie.Need-loop-less Inv-loop μ-loop
+loop-less c = omega arith
+
+loop-again : tie.Need-loop-again Inv-loop μ-loop
+loop-again c =
+    let a = c .before .before .before .before .before .before .before .before .before .args in
+    let l = c .before .before .before .before .before .before .before .loop in
+    let wide = c .before .before .before .before .wide in
+    (omega arith, omega arith, l .inv .2 ∙ digit (a .most) (l .value) (a .line .now) (l .i) (wide .result) (c .before .before .before .before .before .before .loop-test .taken) (wide .ensures) (c .before .before .before .if1 .left) (c .before .before .if2 .left) (c .before .if3 .left) (c .if4 .left))
+
+cast-t23 : tie.Need-cast-t23 Inv-loop μ-loop
+cast-t23 c = omega (arith, c .before .before .before .fits .most)
+
+add-t24 : tie.Need-add-t24 Inv-loop μ-loop
+add-t24 c = search needs
+
+returns-5 : tie.Need-returns-5 Inv-loop μ-loop
+unfolding after digits
+returns-5 c =
+    let a = c .before .before .before .args in
+    let l = c .before .loop in
+    (sym (l .inv .2 ∙ last 0 (digits (a .most) (l .value)) (a .line .now) (l .i) (omega arith)), l .inv .1)
+
+pub digits-spec : {M : Type 1} → statement M
+digits-spec =
+    tie.close
+    (tie.spec
+    Inv-loop
+    μ-loop
+    loop-holds
+    shared-slice-read-wide
+    wide-requires
+    cast-t12
+    add-t13
+    returns
+    add-t15
+    returns-2
+    add-t17
+    returns-3
+    mul-if4
+    add-if4
+    add-t22
+    returns-4
+    mul-value
+    add-value
+    add-i
+    loop-less
+    loop-again
+    cast-t23
+    add-t24
+    returns-5)

@@ -1,0 +1,68 @@
+-- "SEED: what the bytes hold first."
+use mathlib.Core.Bool.{cond}
+use mathlib.Core.List.{List, [], _∷_, _++_}
+use Prim.Native.Nat.{ℕ, zero, suc, _+_, _-_, _*_, _/_, _%_}
+use lib.Dec.{eqb, ltb}
+use lib.ListN.{replicate}
+use Rattle.cases.specs.Line.{Left, Value, value, none, Got, got, next, firstOf}
+use Rattle.cases.specs.Number.{numberOf, named}
+
+pub data Sown : Type 0 where
+  zeros : Sown
+  counted : ℕ → Sown
+  given : List ℕ → Sown
+
+-- What a hex digit stands for; 16 for what is none.
+unfoldable pub nibble : ℕ → ℕ
+nibble b =
+    cond (ltb b 48) 16
+    (cond (ltb b 58) (b - 48) (cond (ltb b 65) 16 (cond (ltb b 71) (b - 55) (cond (ltb b 97) 16 (cond (ltb b 103) (b - 87) 16)))))
+
+abbrev pub byte : ℕ → ℕ → ℕ
+byte a b = nibble a % 16 * 16 + nibble b % 16
+
+unfoldable pub before : List ℕ → Value (List ℕ) → Value (List ℕ)
+before p (value bs) = value (p ++ bs)
+before p none = none
+
+-- "hex: those bytes, however many", two digits each.
+unfoldable pub hexes : List ℕ → Value (List ℕ)
+hexes [] = value []
+hexes (a ∷ []) = none
+hexes (a ∷ b ∷ w) = cond (ltb (nibble a) 16) (cond (ltb (nibble b) 16) (before (byte a b ∷ []) (hexes w)) none) none
+
+unfoldable pub givenBy : Value (List ℕ) → Value Sown
+givenBy (value bs) = value (given bs)
+givenBy none = none
+
+unfoldable pub givenHex : List ℕ → Value Sown
+givenHex w = givenBy (hexes w)
+
+-- "`x` and then hex"
+unfoldable pub exact : List ℕ → Value Sown
+exact [] = none
+exact (b ∷ w) = cond (eqb b 120) (givenHex w) none
+
+unfoldable pub countedBy : Got ℕ → Got Sown
+countedBy g = got (counted (g .value)) (g .left)
+
+abbrev pub z : List ℕ
+z = 122 ∷ []
+
+-- "`z`: zeros. A number s: .. `x` and then hex"
+unfoldable pub seedOf : Left → Got Sown
+seedOf l = firstOf (got zeros (named z l)) (firstOf (next (counted 0) exact l) (countedBy (numberOf 4294967295 l)))
+
+-- "for each byte in turn s = s*1664525 + 1013904223 mod 2^32, and the byte is s >> 24"
+abbrev pub turned : ℕ → ℕ
+turned s = (s * 1664525 + 1013904223) % 4294967296
+
+unfoldable pub turns : ℕ → ℕ → List ℕ
+turns zero s = []
+turns (suc n) s = turned s / 16777216 ∷ turns n (turned s)
+
+-- The first bytes of a canvas of so many.
+unfoldable pub firstBytes : Sown → ℕ → List ℕ
+firstBytes zeros n = replicate n 0
+firstBytes (counted s) n = turns n s
+firstBytes (given bs) n = bs

@@ -1,0 +1,178 @@
+// What the bytes of a canvas hold first.
+ghost use mathlib.Core.Path.{_≡_};
+ghost use Prim.Native.Nat.{_≤_, _+_, _*_};
+ghost use lib.ListN.{length, replicate};
+ghost use Rattle.cases.specs.Line.{next};
+ghost use Rattle.cases.specs.Place.{leftAt, readSeed, Within, Fills, sown, pairs};
+ghost use Rattle.cases.specs.Seed.{seedOf, exact, counted, givenHex, firstBytes, turns};
+ghost use Rattle.cases.specs.Seed.{nibble as nibbleOf};
+use crate::number::named;
+use crate::number::read_number;
+
+pub enum Seed {
+    Zeros,
+    Number(u32),
+    // Hex digits: where they begin in the line, and how many bytes they are.
+    Bytes(usize, usize),
+}
+
+pub struct Seeded {
+    pub seed: Seed,
+    pub next: usize,
+}
+
+// The seed at a place.
+pub fn read_seed(line: &[u8], at: usize) -> Seeded
+    ensures { λ r. ⌜ readSeed (now (line .entry)) r ≡ seedOf (leftAt (now (line .entry)) at) ⌝ }
+    ensures { λ r. ⌜ Within (now (line .entry)) (r .seed) ⌝ }
+{
+    let z = named(line, at, b"z");
+    if z < line.len() + 2 {
+        return Seeded {
+            seed: Seed::Zeros,
+            next: z,
+        };
+    }
+    let x = read_exact(line, at);
+    if x.next < line.len() + 2 {
+        return x;
+    }
+    let n = read_number(line, at, 4294967295);
+    Seeded {
+        seed: Seed::Number(n.value),
+        next: n.next,
+    }
+}
+
+// An x at a place, and hex digits.
+fn read_exact(line: &[u8], at: usize) -> Seeded
+    ensures { λ r. ⌜ readSeed (now (line .entry)) r ≡ next (counted 0) exact (leftAt (now (line .entry)) at) ⌝ }
+    ensures { λ r. ⌜ Within (now (line .entry)) (r .seed) ⌝ }
+{
+    if line.len() <= at {
+        return Seeded {
+            seed: Seed::Number(0),
+            next: line.len() + 2,
+        };
+    }
+    if line[at] != 120 {
+        return Seeded {
+            seed: Seed::Number(0),
+            next: line.len() + 2,
+        };
+    }
+    read_hex(line, at + 1)
+}
+
+// The pairs of hex digits from a place up to the word's end.
+fn read_hex(line: &[u8], at: usize) -> Seeded
+    requires { ⌜ at ≤ length (now line) ⌝ }
+    ensures { λ r. ⌜ readSeed (now (line .entry)) r ≡ next (counted 0) givenHex (leftAt (now (line .entry)) at) ⌝ }
+    ensures { λ r. ⌜ Within (now (line .entry)) (r .seed) ⌝ }
+{
+    let mut i = at;
+    let mut n = 0;
+    while i < line.len() {
+        if line[i] == 32 {
+            return Seeded {
+                seed: Seed::Bytes(at, n),
+                next: i + 1,
+            };
+        }
+        if line.len() <= i + 1 {
+            return Seeded {
+                seed: Seed::Number(0),
+                next: line.len() + 2,
+            };
+        }
+        if 15 < nibble(line[i]) {
+            return Seeded {
+                seed: Seed::Number(0),
+                next: line.len() + 2,
+            };
+        }
+        if 15 < nibble(line[i + 1]) {
+            return Seeded {
+                seed: Seed::Number(0),
+                next: line.len() + 2,
+            };
+        }
+        i += 2;
+        n += 1;
+    }
+    Seeded {
+        seed: Seed::Bytes(at, n),
+        next: i + 1,
+    }
+}
+
+// What a hex digit stands for; 16 for what is none.
+fn nibble(b: u8) -> u8
+    ensures { λ r. ⌜ r ≡ nibbleOf b ⌝ }
+{
+    if b < 48 {
+        return 16;
+    }
+    if b < 58 {
+        return b - 48;
+    }
+    if b < 65 {
+        return 16;
+    }
+    if b < 71 {
+        return b - 55;
+    }
+    if b < 97 {
+        return 16;
+    }
+    if b < 103 {
+        return b - 87;
+    }
+    16
+}
+
+// Puts the seed's first bytes into all of bytes.
+pub fn sow(line: &[u8], seed: Seed, bytes: &mut [u8])
+    requires { ⌜ Within (now line) seed ⌝ }
+    requires { ⌜ Fills seed (length (now bytes)) ⌝ }
+    ensures { λ _. ⌜ now (bytes .exit) ≡ firstBytes (sown (now (line .entry)) seed) (length (now (bytes .entry))) ⌝ }
+{
+    match seed {
+        Seed::Zeros => clear(bytes),
+        Seed::Number(s) => grow(s, bytes),
+        Seed::Bytes(from, _) => decode(line, from, bytes),
+    }
+}
+
+fn clear(bytes: &mut [u8])
+    ensures { λ _. ⌜ now (bytes .exit) ≡ replicate (length (now (bytes .entry))) 0 ⌝ }
+{
+    let mut i = 0;
+    while i < bytes.len() {
+        bytes[i] = 0;
+        i += 1;
+    }
+}
+
+fn grow(s: u32, bytes: &mut [u8])
+    ensures { λ _. ⌜ now (bytes .exit) ≡ turns (length (now (bytes .entry))) s ⌝ }
+{
+    let mut t = s as u64;
+    let mut i = 0;
+    while i < bytes.len() {
+        t = (t * 1664525 + 1013904223) % 4294967296;
+        bytes[i] = (t / 16777216) as u8;
+        i += 1;
+    }
+}
+
+fn decode(line: &[u8], from: usize, bytes: &mut [u8])
+    requires { ⌜ from + 2 * length (now bytes) ≤ length (now line) ⌝ }
+    ensures { λ _. ⌜ now (bytes .exit) ≡ pairs (now (line .entry)) from (length (now (bytes .entry))) ⌝ }
+{
+    let mut i = 0;
+    while i < bytes.len() {
+        bytes[i] = nibble(line[from + 2 * i]) % 16 * 16 + nibble(line[from + 2 * i + 1]) % 16;
+        i += 1;
+    }
+}

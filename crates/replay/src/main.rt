@@ -1,0 +1,245 @@
+// Reads cases from standard input, one a line, and writes a line for each to standard output.
+ghost use mathlib.Core.Path.{_≡_};
+ghost use Prim.Native.Nat.{_≤_};
+ghost use lib.ListN.{length};
+
+mod calls;
+
+use calls::bad;
+use calls::run;
+use cases::Case;
+use libc::STDIN_FILENO;
+use libc::STDOUT_FILENO;
+
+// The longest line that is read; what is longer is bad.
+const LONGEST: usize = 65536;
+
+// Answers a line at the start of out.
+fn answer(line: &[u8], bytes: &mut [u8], out: &mut [u8]) -> usize
+    ensures { λ r. ⌜ r ≤ length (now (out .entry)) ⌝ }
+{
+    if LONGEST < line.len() {
+        return bad(out);
+    }
+    match cases::read(line, bytes) {
+        Case::Bad => bad(out),
+        Case::Of(v, n, c) => {
+            if bytes.len() < n {
+                return bad(out);
+            }
+            run(v, &mut bytes[..n], c, out)
+        }
+    }
+}
+
+// Answers a line behind what out holds, which is written out first where little room is left.
+fn step(line: &[u8], bytes: &mut [u8], out: &mut [u8], used: usize) -> usize
+    requires { ⌜ used ≤ length (now out) ⌝ }
+    ensures { λ r. ⌜ r ≤ length (now (out .entry)) ⌝ }
+{
+    if used + 96 <= out.len() {
+        let n = answer(line, bytes, &mut out[used..]);
+        return used + n;
+    }
+    io::write_all(STDOUT_FILENO, &out[..used]);
+    answer(line, bytes, out)
+}
+
+// The index of the first line end at or after a place, or the text's length.
+fn line_end(text: &[u8], from: usize) -> usize
+    requires { ⌜ from ≤ length (now text) ⌝ }
+    ensures { λ r. ⌜ (from ≤ r) × (r ≤ length (now (text .entry))) ⌝ }
+{
+    let mut i = from;
+    while i < text.len() {
+        if text[i] == 10 {
+            return i;
+        }
+        i += 1;
+    }
+    i
+}
+
+// How far a text was answered, and how much of out is used.
+struct Done {
+    at: usize,
+    used: usize,
+}
+
+// Answers each whole line of a text from a place on.
+fn lines(text: &[u8], bytes: &mut [u8], out: &mut [u8], from: usize, used: usize) -> Done
+    requires { ⌜ from ≤ length (now text) ⌝ }
+    requires { ⌜ used ≤ length (now out) ⌝ }
+    ensures { λ r. ⌜ (r .at ≤ length (now (text .entry))) × (r .used ≤ length (now (out .entry))) ⌝ }
+{
+    let mut at = from;
+    let mut u = used;
+    let mut end = line_end(text, at);
+    while end < text.len() {
+        u = step(&text[at..end], bytes, out, u);
+        at = end + 1;
+        end = line_end(text, at);
+    }
+    Done { at, used: u }
+}
+
+// Moves a part of the text to its start.
+fn shift(text: &mut [u8], from: usize, to: usize)
+    requires { ⌜ (from ≤ to) × (to ≤ length (now text)) ⌝ }
+{
+    let mut i = 0;
+    while i < to - from {
+        text[i] = text[from + i];
+        i += 1;
+    }
+}
+
+// What is carried from one read to the next: how much text is held, how much of out is used, whether the held line
+// has become too long and was let go, and whether there may be more to read.
+struct State {
+    held: usize,
+    used: usize,
+    long: bool,
+    more: bool,
+}
+
+// Answers the whole lines of the text up to an end, from a place on, and keeps what is behind them.
+fn keep(
+    text: &mut [u8],
+    bytes: &mut [u8],
+    out: &mut [u8],
+    from: usize,
+    end: usize,
+    used: usize,
+) -> State
+    requires { ⌜ (from ≤ end) × (end ≤ length (now text)) ⌝ }
+    requires { ⌜ used ≤ length (now out) ⌝ }
+    ensures { λ r. ⌜ (r .held ≤ 65536) × (r .used ≤ length (now (out .entry))) ⌝ }
+{
+    let d = lines(&text[..end], bytes, out, from, used);
+    let at = d.at;
+    shift(text, at, end);
+    if LONGEST < end - at {
+        return State {
+            held: 0,
+            used: d.used,
+            long: true,
+            more: true,
+        };
+    }
+    State {
+        held: end - at,
+        used: d.used,
+        long: false,
+        more: true,
+    }
+}
+
+// The same where the first line is the rest of one that is too long: once it ends, it is answered as an empty one is.
+fn resume(text: &mut [u8], bytes: &mut [u8], out: &mut [u8], end: usize, used: usize) -> State
+    requires { ⌜ end ≤ length (now text) ⌝ }
+    requires { ⌜ used ≤ length (now out) ⌝ }
+    ensures { λ r. ⌜ (r .held ≤ 65536) × (r .used ≤ length (now (out .entry))) ⌝ }
+{
+    let e = line_end(&text[..end], 0);
+    if end <= e {
+        return State {
+            held: 0,
+            used,
+            long: true,
+            more: true,
+        };
+    }
+    let u = step(&text[..0], bytes, out, used);
+    keep(text, bytes, out, e + 1, end, u)
+}
+
+// Reads once and answers the whole lines.
+fn turn(s: State, text: &mut [u8], bytes: &mut [u8], out: &mut [u8]) -> State
+    requires { ⌜ (s .held ≤ 65536) × (131072 ≤ length (now text)) ⌝ }
+    requires { ⌜ s .used ≤ length (now out) ⌝ }
+    ensures { λ r. ⌜ (r .held ≤ 65536) × (r .used ≤ length (now (out .entry))) ⌝ }
+{
+    let held = s.held;
+    let got = libc::read(STDIN_FILENO, &mut text[held..]);
+    if got <= 0 {
+        return State {
+            held,
+            used: s.used,
+            long: s.long,
+            more: false,
+        };
+    }
+    let n = io::count(got, &text[held..]);
+    if s.long {
+        return resume(text, bytes, out, held + n, s.used);
+    }
+    keep(text, bytes, out, 0, held + n, s.used)
+}
+
+// Reads and answers until nothing more comes. A proved loop has to end, so it counts its turns down from a number
+// that no run uses up.
+fn turns(text: &mut [u8], bytes: &mut [u8], out: &mut [u8]) -> State
+    requires { ⌜ 131072 ≤ length (now text) ⌝ }
+    ensures { λ r. ⌜ (r .held ≤ 65536) × (r .used ≤ length (now (out .entry))) ⌝ }
+{
+    let mut s = State {
+        held: 0,
+        used: 0,
+        long: false,
+        more: true,
+    };
+    let mut left = u64::MAX;
+    while 0 < left {
+        if !s.more {
+            return s;
+        }
+        s = turn(s, text, bytes, out);
+        left -= 1;
+    }
+    s
+}
+
+// A last line without a line end counts too.
+fn last(s: State, text: &[u8], bytes: &mut [u8], out: &mut [u8]) -> usize
+    requires { ⌜ s .held ≤ length (now text) ⌝ }
+    requires { ⌜ s .used ≤ length (now out) ⌝ }
+    ensures { λ r. ⌜ r ≤ length (now (out .entry)) ⌝ }
+{
+    let held = s.held;
+    if s.long {
+        return step(&text[..0], bytes, out, s.used);
+    }
+    if 0 < held {
+        return step(&text[..held], bytes, out, s.used);
+    }
+    s.used
+}
+
+// Answers all of standard input.
+fn serve(text: &mut [u8], bytes: &mut [u8; 1048576], out: &mut [u8])
+    requires { ⌜ 131072 ≤ length (now text) ⌝ }
+{
+    let s = turns(text, bytes, out);
+    let used = last(s, text, bytes, out);
+    io::write_all(STDOUT_FILENO, &out[..used]);
+}
+
+// Room for two lines of the greatest length.
+fn text_buffer() -> [u8; 131072]
+    ensures { λ r. ⌜ 131072 ≡ length r ⌝ }
+{
+    [0; 131072]
+}
+
+// Room for the largest canvas that is tried, 1,048,576 bytes.
+fn canvas_buffer() -> [u8; 1048576] {
+    [0; 1048576]
+}
+
+fn main() {
+    let mut text = text_buffer();
+    let mut bytes = canvas_buffer();
+    let mut out = io::large_buffer();
+    serve(&mut text, &mut bytes, &mut out);
+}

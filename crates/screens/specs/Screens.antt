@@ -1,0 +1,49 @@
+-- "The cases marked * are one proved table under a single theorem": the table, and what each kind of row says.
+use mathlib.Core.Path.{_≡_}
+use mathlib.Core.List.{List, [], _∷_}
+use Prim.Native.Nat.{ℕ}
+use lib.IntN.{pos}
+use Rattle.words.specs.declared.Color.{Color}
+use Rattle.words.specs.Format.{Format, rgb332, rgb565, rgb8, argb, abgr}
+use Rattle.words.specs.Word.{color, fromColor, toColor}
+use Rattle.words.specs.Ink.{xorColor}
+use Rattle.canvas.specs.declared.Clip.{Clip}
+use Rattle.canvas.specs.Clip.{intersection}
+
+abbrev pub clip : ℕ → ℕ → ℕ → ℕ → Clip
+clip x y w h = record { x = pos x; y = pos y; width = w; height = h }
+
+pub data Row : Type 0 where
+  stores : Format → Color → ℕ → Row
+  reads : Format → ℕ → Color → Row
+  xors : Format → ℕ → Color → ℕ → Row
+  meets : Clip → Clip → Clip → Row
+
+abbrev pub Holds : Row → Type 0
+Holds (stores f c w) = fromColor f c ≡ w
+Holds (reads f w c) = toColor f w ≡ c
+Holds (xors f w c w′) = xorColor f w c ≡ w′
+Holds (meets c d e) = intersection c d ≡ e
+
+pub data Every : List Row → Type 0 where
+  none : Every []
+  also : {r : Row} {rs : List Row} → Holds r → Every rs → Every (r ∷ rs)
+
+-- "Colour a=128, 200,100,50: 332 0xAD, 565 0xCB26, Rgb8 0x00C86432, ARGB 0x80C86432, ABGR 0x803264C8."
+-- "0xAD reads 180,108,85. 0xCB26 reads 206,101,49."
+-- "ARGB 0x00FF00FF XOR red: 0xFF0000FF; again: 0xFFFF00FF."
+-- "Clips (0,0,10,10) and (5,6,10,10): (5,6,5,4). (0,0,4,4) and (10,0,4,4): (10,0,0,4)."
+unfoldable pub table : List Row
+table =
+    stores rgb332 (color 128 200 100 50) 0xAD
+    ∷ stores rgb565 (color 128 200 100 50) 0xCB26
+    ∷ stores rgb8 (color 128 200 100 50) 0x00C86432
+    ∷ stores argb (color 128 200 100 50) 0x80C86432
+    ∷ stores abgr (color 128 200 100 50) 0x803264C8
+    ∷ reads rgb332 0xAD (color 255 180 108 85)
+    ∷ reads rgb565 0xCB26 (color 255 206 101 49)
+    ∷ xors argb 0x00FF00FF (color 255 255 0 0) 0xFF0000FF
+    ∷ xors argb 0xFF0000FF (color 255 255 0 0) 0xFFFF00FF
+    ∷ meets (clip 0 0 10 10) (clip 5 6 10 10) (clip 5 6 5 4)
+    ∷ meets (clip 0 0 4 4) (clip 10 0 4 4) (clip 10 0 0 4)
+    ∷ []
