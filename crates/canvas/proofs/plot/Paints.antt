@@ -1,4 +1,5 @@
--- What plots leave is the paint of the landed ones, and their number; and inks that agree on words paint alike.
+-- What plots leave is the paint of the landed ones, and their number; inks that agree on words paint alike; and what is
+-- no pixel's is unchanged.
 use mathlib.Core.Path.{_≡_, refl, ap, ap₂, _∙_}
 use mathlib.Core.Bool.{Bool, true, false, cond}
 use mathlib.Core.List.{List, [], _∷_}
@@ -12,11 +13,12 @@ use Rattle.words.specs.Ink.{inked}
 use Rattle.canvas.specs.declared.Canvas.{Canvas}
 use Rattle.canvas.specs.declared.Clip.{Clip}
 use Rattle.canvas.specs.declared.Tally.{Tally}
-use Rattle.canvas.specs.Bytes.{form, loadAt, storeAt}
+use Rattle.canvas.specs.Bytes.{Cell, get, form, loadAt, storeAt, On}
 use Rattle.canvas.specs.Plot.{Point, Plot, plot, inks, Fate, landed, outside, clipped, fate, Hit, hit, hitOf, keep, hits, touch, paint}
 use Rattle.canvas.specs.Walk.{plus, Work, work, act, drawn}
 use Rattle.canvas.proofs.bytes.Cells.{Bytes}
-use Rattle.canvas.proofs.bytes.Pixels.{bytes-store, load-lt, store-load}
+use Rattle.canvas.proofs.plot.Fates.{lands-on}
+use Rattle.canvas.proofs.bytes.Pixels.{bytes-store, load-lt, store-load, Free, get-store}
 
 abbrev tally : ℕ → Tally
 tally n = record { landed = n }
@@ -86,3 +88,18 @@ pub inks-length : (f : ℕ → ℕ) (ps : List Point) → length (inks f ps) ≡
 unfolding inks
 inks-length f [] = refl
 inks-length f (p ∷ ps) = ap suc (inks-length f ps)
+
+-- ---- a cell that no pixel has keeps its value, whatever is drawn
+
+keep-free : (v : Canvas) (f : Fate) (h : Hit) (hs : List Hit) (b : List ℕ) (e : Cell) → Free v e → (f ≡ landed → On v (h .x) (h .y))
+  → ((b′ : List ℕ) → get (paint v hs b′) e ≡ get b′ e) → get (paint v (keep f h hs) b) e ≡ get b e
+unfolding paint touch
+keep-free v landed h hs b e free on rest = rest (touch v b h) ∙ get-store v b (h .x) (h .y) _ e free (on refl)
+keep-free v outside h hs b e free on rest = rest b
+keep-free v clipped h hs b e free on rest = rest b
+
+pub untouched : (v : Canvas) (c : Clip) (ps : List Plot) (b : List ℕ) (e : Cell) → Free v e → get (paint v (hits v c ps) b) e ≡ get b e
+unfolding hits paint
+untouched v c [] b e free = refl
+untouched v c (p ∷ ps) b e free =
+    keep-free v (fate v c p) (hitOf p) (hits v c ps) b e free (lands-on v c p) (λ b′. untouched v c ps b′ e free)
