@@ -66,7 +66,7 @@ unfoldable pub drawn : Canvas → Clip → List Plot → Work → Work
 drawn v c [] w = w
 drawn v c (p ∷ ps) w = drawn v c ps (act v p (fate v c p) w)
 
--- The largest count that the tally may reach.
+-- The count fits its 64 bits.
 abbrev pub Fits : Tally → Type 0
 Fits t = t .landed < 18446744073709551616
 

@@ -164,7 +164,7 @@ fn read_fill(line: &[u8], at: usize) -> Call
 }
 
 // The call at a place, up to the line's end.
-pub fn read_call(line: &[u8], at: usize) -> Call
+pub(crate) fn read_call(line: &[u8], at: usize) -> Call
     ensures { λ r. ⌜ r ≡ callOf (leftAt (now (line .entry)) at) ⌝ }
 {
     let p = named(line, at, b"put");

@@ -10,12 +10,12 @@ ghost use Rattle.cases.specs.Number.{numberOf, signedOf, negativeOf};
 ghost use Rattle.cases.specs.Number.{named as namedBy};
 ghost use Rattle.cases.specs.Number.{digits as digitsOf};
 
-pub struct Number {
+pub(crate) struct Number {
     pub value: u32,
     pub next: usize,
 }
 
-pub struct Signed {
+pub(crate) struct Signed {
     pub value: i32,
     pub next: usize,
 }
@@ -27,7 +27,7 @@ fn wide(b: u8) -> u64
 }
 
 // The number at a place, if it is at most so much.
-pub fn read_number(line: &[u8], at: usize, most: u32) -> Number
+pub(crate) fn read_number(line: &[u8], at: usize, most: u32) -> Number
     ensures { λ r. ⌜ read (now (line .entry)) r ≡ numberOf most (leftAt (now (line .entry)) at) ⌝ }
     ensures { λ r. ⌜ r .value ≤ most ⌝ }
 {
@@ -91,7 +91,7 @@ fn digits(line: &[u8], at: usize, most: u32) -> Number
 }
 
 // The number at a place, with or without a minus, if an i32 holds it.
-pub fn read_signed(line: &[u8], at: usize) -> Signed
+pub(crate) fn read_signed(line: &[u8], at: usize) -> Signed
     ensures { λ r. ⌜ readSigned (now (line .entry)) r ≡ signedOf (leftAt (now (line .entry)) at) ⌝ }
 {
     let n = read_number(line, at, 2147483647);
@@ -128,7 +128,7 @@ fn read_negative(line: &[u8], at: usize) -> Signed
 }
 
 // The place after the word at a place, if that word is the name.
-pub fn named(line: &[u8], at: usize, name: &[u8]) -> usize
+pub(crate) fn named(line: &[u8], at: usize, name: &[u8]) -> usize
     ensures { λ r. ⌜ leftAt (now (line .entry)) r ≡ namedBy (now (name .entry)) (leftAt (now (line .entry)) at) ⌝ }
 {
     let mut i = at;

@@ -9,20 +9,20 @@ ghost use Rattle.cases.specs.Seed.{nibble as nibbleOf};
 use crate::number::named;
 use crate::number::read_number;
 
-pub enum Seed {
+pub(crate) enum Seed {
     Zeros,
     Number(u32),
     // Hex digits: where they begin in the line, and how many bytes they are.
     Bytes(usize, usize),
 }
 
-pub struct Seeded {
+pub(crate) struct Seeded {
     pub seed: Seed,
     pub next: usize,
 }
 
 // The seed at a place.
-pub fn read_seed(line: &[u8], at: usize) -> Seeded
+pub(crate) fn read_seed(line: &[u8], at: usize) -> Seeded
     ensures { λ r. ⌜ readSeed (now (line .entry)) r ≡ seedOf (leftAt (now (line .entry)) at) ⌝ }
     ensures { λ r. ⌜ Within (now (line .entry)) (r .seed) ⌝ }
 {
@@ -132,7 +132,7 @@ fn nibble(b: u8) -> u8
 }
 
 // Puts the seed's first bytes into all of bytes.
-pub fn sow(line: &[u8], seed: Seed, bytes: &mut [u8])
+pub(crate) fn sow(line: &[u8], seed: Seed, bytes: &mut [u8])
     requires { ⌜ Within (now line) seed ⌝ }
     requires { ⌜ Fills seed (length (now bytes)) ⌝ }
     ensures { λ _. ⌜ now (bytes .exit) ≡ firstBytes (sown (now (line .entry)) seed) (length (now (bytes .entry))) ⌝ }

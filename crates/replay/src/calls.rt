@@ -91,7 +91,7 @@ fn fill(
     reply(drawn(Name::Fill, d, bytes), out)
 }
 
-pub fn bad(out: &mut [u8]) -> usize
+pub(crate) fn bad(out: &mut [u8]) -> usize
     ensures { λ r. ⌜ r ≤ length (now (out .entry)) ⌝ }
 {
     if out.len() < 4 {
@@ -105,7 +105,7 @@ pub fn bad(out: &mut [u8]) -> usize
 }
 
 // Makes the call on the case's bytes, and puts the answer at the start of out.
-pub fn run(v: Canvas, bytes: &mut [u8], c: Call, out: &mut [u8]) -> usize
+pub(crate) fn run(v: Canvas, bytes: &mut [u8], c: Call, out: &mut [u8]) -> usize
     ensures { λ r. ⌜ r ≤ length (now (out .entry)) ⌝ }
 {
     match c {

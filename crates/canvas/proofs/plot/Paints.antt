@@ -92,7 +92,7 @@ inks-length f (p ∷ ps) = ap suc (inks-length f ps)
 -- ---- a cell that no pixel has keeps its value, whatever is drawn
 
 keep-free : (v : Canvas) (f : Fate) (h : Hit) (hs : List Hit) (b : List ℕ) (e : Cell) → Free v e → (f ≡ landed → On v (h .x) (h .y))
-  → ((b′ : List ℕ) → get (paint v hs b′) e ≡ get b′ e) → get (paint v (keep f h hs) b) e ≡ get b e
+    → ((b′ : List ℕ) → get (paint v hs b′) e ≡ get b′ e) → get (paint v (keep f h hs) b) e ≡ get b e
 unfolding paint touch
 keep-free v landed h hs b e free on rest = rest (touch v b h) ∙ get-store v b (h .x) (h .y) _ e free (on refl)
 keep-free v outside h hs b e free on rest = rest b
