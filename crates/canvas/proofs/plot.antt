@@ -3,3 +3,4 @@ pub mod Fates
 pub mod Draws
 pub mod Paints
 pub mod Answers
+pub mod Orders

@@ -4,5 +4,6 @@ pub mod Clip
 pub mod Plot
 pub mod Boxes
 pub mod Call
+pub mod Calls
 pub mod Look
 pub mod Walk

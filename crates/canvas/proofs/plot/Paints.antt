@@ -45,7 +45,7 @@ drawn-is v c (p ∷ ps) w =
 
 -- ---- inks that agree on words
 
-touch-ink : (v : Canvas) (b : List ℕ) (x y : ℕ) (f g : ℕ → ℕ) → Bytes b → ((w : ℕ) → w < range (form v) → f w ≡ g w) → touch v b (hit f x y) ≡ touch v b (hit g x y)
+pub touch-ink : (v : Canvas) (b : List ℕ) (x y : ℕ) (f g : ℕ → ℕ) → Bytes b → ((w : ℕ) → w < range (form v) → f w ≡ g w) → touch v b (hit f x y) ≡ touch v b (hit g x y)
 unfolding touch
 touch-ink v b x y f g h e = ap (storeAt v b x y) (e (loadAt v b x y) (load-lt v b x y h))
 
@@ -61,7 +61,7 @@ unfolding touch
 act-inside v x y i b b′ t n m true h e k = ap₂ work e (ap tally (omega arith))
 act-inside v x y i b b′ t n m false h e k = ap₂ work (e ∙ store-load v b x y h) (ap tally (omega arith))
 
-touch-bytes : (v : Canvas) (b : List ℕ) (h : Hit) → Bytes b → Bytes (touch v b h)
+pub touch-bytes : (v : Canvas) (b : List ℕ) (h : Hit) → Bytes b → Bytes (touch v b h)
 unfolding touch
 touch-bytes v b h o = bytes-store v b (h .x) (h .y) _ o
 
