@@ -1,5 +1,5 @@
 -- Calls with XOR on, made one after the other: any order leaves the same bytes and gives each its answer, and made again,
--- in any order, they are taken away. Proved over the laws of words and of bytes; a new call adds a case of `color-of` and `all-xors`.
+-- in any order, they are taken away. Proved over the laws of words and of bytes; a new call adds a case of `call-of`.
 use mathlib.Core.Path.{_≡_, refl, sym, ap, ap₂, _∙_, subst}
 use mathlib.Core.Bool.{Bool, true, false}
 use mathlib.Core.List.{List, [], _∷_, _++_, map, append-assoc, List·Permᴰ, List·Permᴰ·nil, List·Permᴰ·cons, List·Permᴰ·swap, List·Permᴰ·trans, Permᴰ·append-right, Permᴰ·append-left, List·Permᴰ·append-comm, Permᴰ·refl}
@@ -16,61 +16,63 @@ use Rattle.canvas.specs.declared.faults.Verdict.the-variants.{Sound, Fau
 use Rattle.canvas.specs.Bytes.{form, On}
 use Rattle.canvas.specs.Faults.{verdict}
 use Rattle.canvas.specs.Plot.{Point, Plot, plot, inks, Fate, landed, outside, clipped, fate, Hit, hit, hitOf, keep, hits, paint}
-use Rattle.canvas.specs.Call.{Call, putPixel, fillRect, clipOf, ink, plots, ruled, drawing, call}
+use Rattle.canvas.specs.Call.{Call, putPixel, fillRect, clipOf, colorOf, ink, plots, ruled, drawing, call}
 use Rattle.canvas.specs.Calls.{after}
 use Rattle.canvas.proofs.bytes.Cells.{Bytes}
 use Rattle.canvas.proofs.faults.Verdicts.{sized}
 use Rattle.canvas.proofs.plot.Fates.{lands-on}
 use Rattle.canvas.proofs.plot.Orders.{Screen, Family, All, none, also, paint-screen, paint-append, paint-perm, doubled, paint-back, paint-none}
 
-abbrev pub color-of : Call → Color
-color-of (putPixel x y color clip) = color
-color-of (fillRect x y w h color clip) = color
-
 -- calls whose colours are of bytes, as every caller's are
 pub data Fine : List Call → Type 0 where
   end : Fine []
-  then : {k : Call} {ks : List Call} → Channels (color-of k) → Fine ks → Fine (k ∷ ks)
+  then : {k : Call} {ks : List Call} → Channels (colorOf k) → Fine ks → Fine (k ∷ ks)
 
 -- ---- the hits of a call
 
 -- a hit with the ink of a colour in XOR mode
-pub record Xored (v : Canvas) (h : Hit) : Type 0 where
+pub record Of (v : Canvas) (color : Color) (h : Hit) : Type 0 where
   pub on : On v (h .x) (h .y)
-  pub color : Color
-  pub channels : Channels color
   pub inked : h .ink ≡ plotWord (form v) true color
 
-xored : (v : Canvas) → Family v (Xored v)
+pub record Xored (v : Canvas) (h : Hit) : Type 0 where
+  pub color : Color
+  pub channels : Channels color
+  pub of : Of v color h
+
+pub xored : (v : Canvas) → Family v (Xored v)
 xored v = record {
-  on = λ h o. o .on;
-  keeps = λ h o w l. rw (o .inked) (plot-keeps (form v) true (o .color) w (o .channels) l);
-  commutes = λ h k o q m m′ w l. rw (o .inked, q .inked) (plot-swap (form v) (o .color) (q .color) w (o .channels) (q .channels));
+  on = λ h o. o .of .on;
+  keeps = λ h o w l. rw (o .of .inked) (plot-keeps (form v) true (o .color) w (o .channels) l);
+  commutes = λ h k o q m m′ w l. rw (o .of .inked, q .of .inked) (plot-swap (form v) (o .color) (q .color) w (o .channels) (q .channels));
 }
 
 module _ (v : Canvas) (x : v .xor ≡ true) where
-  keep-all : (f : Fate) (h : Hit) (hs : List Hit) → (f ≡ landed → Xored v h) → All (Xored v) hs → All (Xored v) (keep f h hs)
-  keep-all landed h hs e a = also (e refl) a
-  keep-all outside h hs e a = a
-  keep-all clipped h hs e a = a
+  keep-all : (c : Color) (f : Fate) (h : Hit) (hs : List Hit) → (f ≡ landed → Of v c h) → All (Of v c) hs → All (Of v c) (keep f h hs)
+  keep-all c landed h hs e a = also (e refl) a
+  keep-all c outside h hs e a = a
+  keep-all c clipped h hs e a = a
 
-  inks-all : (c : Clip) (k : Color) (ps : List Point) → Channels k → All (Xored v) (hits v c (inks (ink v k) ps))
+  inks-of : (c : Clip) (k : Color) (ps : List Point) → All (Of v k) (hits v c (inks (ink v k) ps))
   unfolding hits inks
-  inks-all c k [] ch = none
-  inks-all c k (p ∷ ps) ch =
+  inks-of c k [] = none
+  inks-of c k (p ∷ ps) =
       let q : Plot = plot (ink v k) (p .x) (p .y) in
-      keep-all (fate v c q) (hitOf q) (hits v c (inks (ink v k) ps))
-      (λ e. record { on = lands-on v c q e; color = k; channels = ch; inked = ap (λ (t : Bool). plotWord (form v) t k) x })
-      (inks-all c k ps ch)
+      keep-all k (fate v c q) (hitOf q) (hits v c (inks (ink v k) ps))
+      (λ e. record { on = lands-on v c q e; inked = ap (λ (t : Bool). plotWord (form v) t k) x }) (inks-of c k ps)
 
-  all-xors : (k : Call) → Channels (color-of k) → All (Xored v) (hits v (clipOf k) (plots v k))
+  pub call-of : (k : Call) → All (Of v (colorOf k)) (hits v (clipOf k) (plots v k))
   unfolding plots
-  all-xors (putPixel px py color clip) ch = inks-all clip color _ ch
-  all-xors (fillRect px py w h color clip) ch = inks-all clip color _ ch
+  call-of (putPixel px py color clip) = inks-of clip color _
+  call-of (fillRect px py w h color clip) = inks-of clip color _
+
+pub all-xored : {v : Canvas} {c : Color} {hs : List Hit} → Channels c → All (Of v c) hs → All (Xored v) hs
+all-xored ch none = none
+all-xored {c = c} ch (also o os) = also (record { color = c; channels = ch; of = o }) (all-xored ch os)
 
 -- ---- the hits of a list of calls
 
-unfoldable all-hits : Canvas → List Call → List Hit
+unfoldable pub all-hits : Canvas → List Call → List Hit
 all-hits v [] = []
 all-hits v (k ∷ ks) = hits v (clipOf k) (plots v k) ++ all-hits v ks
 
@@ -78,10 +80,10 @@ all-append : {Ok : Hit → Type 0} {hs ks : List Hit} → All Ok hs → All Ok k
 all-append none b = b
 all-append (also o a) b = also o (all-append a b)
 
-hits-all : (v : Canvas) → v .xor ≡ true → (ks : List Call) → Fine ks → All (Xored v) (all-hits v ks)
+pub hits-all : (v : Canvas) → v .xor ≡ true → (ks : List Call) → Fine ks → All (Xored v) (all-hits v ks)
 unfolding all-hits
 hits-all v x [] end = none
-hits-all v x (k ∷ ks) (then c cs) = all-append (all-xors v x k c) (hits-all v x ks cs)
+hits-all v x (k ∷ ks) (then c cs) = all-append (all-xored c (call-of v x k)) (hits-all v x ks cs)
 
 hits-append : (v : Canvas) (ks ls : List Call) → all-hits v (ks ++ ls) ≡ all-hits v ks ++ all-hits v ls
 unfolding all-hits
@@ -161,6 +163,13 @@ any-order v ks ls b x o f p = go (verdict v (length b)) refl
         let s : Screen v b = record { long = sized v b e .long; bytes = o } in
         after-sound v ks b s e ∙ paint-perm v (Xored v) (xored v) b (hits-perm v p) s (hits-all v x ks f) ∙ sym (after-sound v ls b s e)
 
+-- made again in any order, each hit's ink is put on twice
+pub made-again : (v : Canvas) (ks ls : List Call) (b : List ℕ) → v .xor ≡ true → Screen v b → verdict v (length b) ≡ Sound → Fine ks → List·Permᴰ ks ls
+    → after v (ks ++ ls) b ≡ paint v (map (doubled v (Xored v) (xored v)) (all-hits v ks)) b
+made-again v ks ls b x s e f p =
+    after-sound v (ks ++ ls) b s e ∙ ap (λ (hs : List Hit). paint v hs b) (hits-append v ks ls)
+    ∙ paint-back v (Xored v) (xored v) (all-hits v ks) (all-hits v ls) b (hits-perm v p) s (hits-all v x ks f)
+
 -- where words keep no alpha, the first bytes come back
 pub taken-away : (v : Canvas) (ks ls : List Call) (b : List ℕ) → v .xor ≡ true → keepsAlpha (form v) ≡ false → Bytes b → Fine ks → List·Permᴰ ks ls → after v (ks ++ ls) b ≡ b
 taken-away v ks ls b x a o f p = go (verdict v (length b)) refl
@@ -169,8 +178,6 @@ taken-away v ks ls b x a o f p = go (verdict v (length b)) refl
     go (Faulty r) e = after-faulty v (ks ++ ls) b r e
     go Sound e =
         let s : Screen v b = record { long = sized v b e .long; bytes = o } in
-        let all : All (Xored v) (all-hits v ks) = hits-all v x ks f in
-        after-sound v (ks ++ ls) b s e ∙ ap (λ (hs : List Hit). paint v hs b) (hits-append v ks ls)
-        ∙ paint-back v (Xored v) (xored v) (all-hits v ks) (all-hits v ls) b (hits-perm v p) s all
-        ∙ paint-none v (Xored v) (xored v) (all-hits v ks) b s all
-        (λ h q w l. rw (q .inked) (plot-twice (form v) (q .color) w (q .channels) ∙ settles-back (form v) (q .color) w a))
+        made-again v ks ls b x s e f p
+        ∙ paint-none v (Xored v) (xored v) (all-hits v ks) b s (hits-all v x ks f)
+        (λ h q w l. rw (q .of .inked) (plot-twice (form v) (q .color) w (q .channels) ∙ settles-back (form v) (q .color) w a))

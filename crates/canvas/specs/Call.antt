@@ -24,6 +24,10 @@ abbrev pub clipOf : Call → Clip
 clipOf (putPixel x y color clip) = clip
 clipOf (fillRect x y w h color clip) = clip
 
+abbrev pub colorOf : Call → Color
+colorOf (putPixel x y color clip) = color
+colorOf (fillRect x y w h color clip) = color
+
 -- What a plot of a colour makes of the word stored on this canvas.
 abbrev pub ink : Canvas → Color → ℕ → ℕ
 ink v color = plotWord (form v) (v .xor) color
