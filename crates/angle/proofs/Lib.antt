@@ -1,0 +1,13 @@
+pub mod Signs
+pub mod Every
+pub mod Nested
+pub mod Terms
+pub mod Placing
+pub mod Nearest
+pub mod Rounded
+pub mod Sum
+pub mod AtMost
+pub mod Stroke
+pub mod Pie
+pub mod Examples
+pub mod Determined

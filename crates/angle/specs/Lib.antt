@@ -1,0 +1,6 @@
+pub mod Meaning
+pub mod Sine
+pub mod Nodes
+pub mod Arctangent
+pub mod Stroke
+pub mod Pie

@@ -1,0 +1,4 @@
+pub mod Range
+pub mod Signs
+pub mod Powers
+pub mod Determined

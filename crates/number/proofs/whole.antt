@@ -1,0 +1,4 @@
+-- What the proofs of `round` and `ceil` use.
+pub mod Halves
+pub mod Signed
+pub mod Ceil
