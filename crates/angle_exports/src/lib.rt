@@ -1,4 +1,4 @@
-// What oracle/numbers and oracle/angles link: the helpers and the angle functions as they are, one call each.
+// What oracle/angles links: the helpers and the angle functions as they are, one call each.
 ghost use mathlib.Core.Path.{_≡_};
 ghost use Rattle.number.specs.Degrees.{radiansOf, remEuclid360};
 ghost use Rattle.number.specs.Size.{absOf, maxOf, signOf};
