@@ -1,6 +1,6 @@
 -- Where words keep alpha, a second pass leaves the first colours: alpha is 255 exactly where a plot of an alpha other than
 -- 0 landed, and the first alpha elsewhere. By the word at each pixel, hit after hit and call after call.
-use mathlib.Core.Path.{_≡_, refl, sym, ap, ap₂, _∙_}
+use mathlib.Core.Path.{_≡_, refl, ap, _∙_}
 use mathlib.Core.Bool.{Bool, true, false, cond}
 use mathlib.Core.List.{List, [], _∷_, _++_, map, List·Permᴰ}
 use Prim.Native.Nat.{ℕ, _+_, _%_, _<_}
@@ -11,14 +11,14 @@ use lib.Dec.{eqb}
 use lib.ListN.{length}
 use Rattle.words.specs.declared.Color.{Color}
 use Rattle.words.specs.Format.{range}
-use Rattle.words.specs.Ink.{keepsAlpha, plotWord, settles}
+use Rattle.words.specs.Ink.{keepsAlpha, settles}
 use Rattle.words.proofs.Laws.{Channels, plot-keeps, plot-twice}
 use Rattle.canvas.specs.declared.Canvas.{Canvas}
 use Rattle.canvas.specs.declared.faults.Verdict.the-variants.{Sound}
 use Rattle.canvas.specs.Bytes.{form, loadAt, storeAt, On}
 use Rattle.canvas.specs.Clip.{both}
 use Rattle.canvas.specs.Faults.{verdict}
-use Rattle.canvas.specs.Plot.{Hit, hit, hits, touch, paint}
+use Rattle.canvas.specs.Plot.{Hit, hits, touch, paint}
 use Rattle.canvas.specs.Call.{Call, clipOf, colorOf, plots}
 use Rattle.canvas.specs.Calls.{after, struck, veiled}
 use Rattle.canvas.proofs.bytes.Pixels.{load-lt, load-store, load-other}
