@@ -1,11 +1,11 @@
 -- No two outcomes satisfy the contract of a public function: the readings of an answer tell its cases apart.
 use mathlib.Core.Path.{_≡_, refl, sym, ap, _∙_}
 use mathlib.Core.List.{List}
-use Prim.Native.Nat.{ℕ}
+use Prim.Native.Nat.{ℕ, zero, suc}
 use denote.Ref.{now}
 use native.Mathlib.Omega.{arith}
 use Rattle.canvas.specs.declared.Refusal.{Refusal}
-use Rattle.canvas.specs.declared.Refusal.the-variants.{Format, Size, Length}
+use Rattle.canvas.specs.declared.Refusal.the-variants.{Format, Size, Length, Source}
 use Rattle.canvas.specs.declared.Drawn.{Drawn}
 use Rattle.canvas.specs.declared.Drawn.the-variants.{Refused, Done}
 use Rattle.canvas.specs.declared.Pixel.{Pixel}
@@ -15,7 +15,9 @@ use Rattle.canvas.specs.Call.{Outcome, statusOf, countOf, leaves}
 use Rattle.canvas.specs.Look.{Reading, seenOf, reads}
 use Rattle.canvas.specs.Look as look
 use Rattle.canvas.proofs.plot.put_pixel.Reads as put-pixel
+use Rattle.canvas.proofs.boxes.draw_rect.Reads as draw-rect
 use Rattle.canvas.proofs.boxes.fill_rect.Reads as fill-rect
+use Rattle.canvas.proofs.areas.invert_rect.Reads as invert-rect
 use Rattle.canvas.proofs.look.get_pixel.Reads as get-pixel
 use Rattle.canvas.proofs.Clip.intersect.Reads as intersect
 use Rattle.canvas.proofs.Refusal.number.Reads as number-of
@@ -24,23 +26,30 @@ use Rattle.canvas.proofs.Drawn.count.Reads as count
 
 -- ---- refusals and answers, from their numbers
 
+-- the refusal of a number
+refusal : ℕ → Refusal
+refusal zero = Source
+refusal (suc zero) = Format
+refusal (suc (suc zero)) = Size
+refusal (suc (suc (suc zero))) = Length
+refusal (suc (suc (suc (suc n)))) = Source
+
+numbered : (r : Refusal) → refusal (number r) ≡ r
+unfolding number refusal
+numbered Format = refl
+numbered Size = refl
+numbered Length = refl
+numbered Source = refl
+
 same-number : (r s : Refusal) → number r ≡ number s → r ≡ s
-unfolding number
-same-number Format Format e = refl
-same-number Format Size e = absurd (omega arith)
-same-number Format Length e = absurd (omega arith)
-same-number Size Format e = absurd (omega arith)
-same-number Size Size e = refl
-same-number Size Length e = absurd (omega arith)
-same-number Length Format e = absurd (omega arith)
-same-number Length Size e = absurd (omega arith)
-same-number Length Length e = refl
+same-number r s e = sym (numbered r) ∙ ap refusal e ∙ numbered s
 
 no-zero : (r : Refusal) → number r ≡ 0 → ⊥
 unfolding number
 no-zero Format e = omega arith
 no-zero Size e = omega arith
 no-zero Length e = omega arith
+no-zero Source e = omega arith
 
 same-drawn : (d e : Drawn) → statusOf d ≡ statusOf e → countOf d ≡ countOf e → d ≡ e
 unfolding statusOf countOf
@@ -76,6 +85,12 @@ put-pixel-determined κs a s s' r r' p q = leaves-same r r' (now (s .1 .0)) (now
 
 pub fill-rect-determined : (κs : _) (a : _) (s s' : _) (r r' : _) → fill-rect.Post κs a r s → fill-rect.Post κs a r' s' → (r ≡ r') × (now (s .1 .0) ≡ now (s' .1 .0))
 fill-rect-determined κs a s s' r r' p q = leaves-same r r' (now (s .1 .0)) (now (s' .1 .0)) (p ∙ sym q)
+
+pub draw-rect-determined : (κs : _) (a : _) (s s' : _) (r r' : _) → draw-rect.Post κs a r s → draw-rect.Post κs a r' s' → (r ≡ r') × (now (s .1 .0) ≡ now (s' .1 .0))
+draw-rect-determined κs a s s' r r' p q = leaves-same r r' (now (s .1 .0)) (now (s' .1 .0)) (p ∙ sym q)
+
+pub invert-rect-determined : (κs : _) (a : _) (s s' : _) (r r' : _) → invert-rect.Post κs a r s → invert-rect.Post κs a r' s' → (r ≡ r') × (now (s .1 .0) ≡ now (s' .1 .0))
+invert-rect-determined κs a s s' r r' p q = leaves-same r r' (now (s .1 .0)) (now (s' .1 .0)) (p ∙ sym q)
 
 pub get-pixel-determined : (κs : _) (a : _) (s s' : _) (r r' : _) → get-pixel.Post κs a r s → get-pixel.Post κs a r' s' → r ≡ r'
 get-pixel-determined κs a s s' r r' p q = reads-same r r' (p ∙ sym q)

@@ -1,9 +1,10 @@
 -- Calls with XOR on, made one after the other: any order leaves the same bytes and gives each its answer, and made again,
--- in any order, they are taken away. Proved over the laws of words and of bytes; a new call adds a case of `call-of`.
+-- in any order, they are taken away. Proved over the laws of words and of bytes; a new call adds a case of `Colored`, `shade` and `shaded`.
 use mathlib.Core.Path.{_≡_, refl, sym, ap, ap₂, _∙_, subst}
 use mathlib.Core.Bool.{Bool, true, false}
 use mathlib.Core.List.{List, [], _∷_, _++_, map, append-assoc, List·Permᴰ, List·Permᴰ·nil, List·Permᴰ·cons, List·Permᴰ·swap, List·Permᴰ·trans, Permᴰ·append-right, Permᴰ·append-left, List·Permᴰ·append-comm, Permᴰ·refl}
 use Prim.Native.Nat.{ℕ}
+use lib.Dec.{eqb}
 use lib.ListN.{length}
 use Rattle.words.specs.declared.Color.{Color}
 use Rattle.words.specs.Ink.{keepsAlpha, plotWord}
@@ -14,83 +15,104 @@ use Rattle.canvas.specs.declared.Refusal.{Refusal}
 use Rattle.canvas.specs.declared.faults.Verdict.{Verdict}
 use Rattle.canvas.specs.declared.faults.Verdict.the-variants.{Sound, Faulty}
 use Rattle.canvas.specs.Bytes.{form, On}
-use Rattle.canvas.specs.Faults.{verdict}
-use Rattle.canvas.specs.Plot.{Point, Plot, plot, inks, Fate, landed, outside, clipped, fate, Hit, hitOf, keep, hits, paint}
-use Rattle.canvas.specs.Call.{Call, putPixel, fillRect, clipOf, colorOf, ink, plots, ruled, drawing, call}
-use Rattle.canvas.specs.Calls.{after}
+use Rattle.canvas.specs.Faults.{orElse, verdict}
+use Rattle.canvas.specs.Plot.{Point, Dot, tint, plot, dip, landed, fate, Hit, hitOf, hits, paint}
+use Rattle.canvas.specs.Call.{Call, putPixel, drawRect, fillRect, clipOf, faultOf, dots, brush, plots, ruled, drawing, call}
+use Rattle.canvas.specs.Calls.{after, unless, landing}
 use Rattle.canvas.proofs.bytes.Cells.{Bytes}
 use Rattle.canvas.proofs.faults.Verdicts.{sized}
 use Rattle.canvas.proofs.plot.Fates.{lands-on}
-use Rattle.canvas.proofs.plot.Orders.{Screen, Family, All, none, also, paint-screen, paint-append, paint-perm, doubled, paint-back, paint-none}
+use Rattle.canvas.proofs.rows.Rows.{paint-length}
+use Rattle.canvas.proofs.plot.Orders.{Screen, Family, All, none, all-append, keep-all, paint-screen, paint-append, paint-perm, doubled, paint-back, paint-none}
 
 -- calls whose colours are of bytes, as every caller's are
+abbrev pub Colored : Call → Type 0
+Colored (putPixel x y color clip) = Channels color
+Colored (drawRect x y w h color clip) = Channels color
+Colored (fillRect x y w h color clip) = Channels color
+
 pub data Fine : List Call → Type 0 where
   end : Fine []
-  then : {k : Call} {ks : List Call} → Channels (colorOf k) → Fine ks → Fine (k ∷ ks)
+  then : {k : Call} {ks : List Call} → Colored k → Fine ks → Fine (k ∷ ks)
+
+-- ---- with XOR on, a call's brush is a plot of some colour
+
+-- the colour that is plotted for a dot's
+abbrev pub shade : Call → Color → Color
+shade (putPixel x y color clip) c = c
+shade (drawRect x y w h color clip) c = c
+shade (fillRect x y w h color clip) c = c
+
+pub record Shaded (v : Canvas) (k : Call) (c : Color) : Type 0 where
+  pub channels : Channels (shade k c)
+  pub alike : eqb (shade k c .a) 0 ≡ eqb (c .a) 0
+  pub plain : brush v k c ≡ plotWord (form v) true (shade k c)
+
+pub data Dots (v : Canvas) (k : Call) : List Dot → Type 0 where
+  no-more : Dots v k []
+  and : {d : Dot} {ds : List Dot} → Shaded v k (d .color) → Dots v k ds → Dots v k (d ∷ ds)
+
+tinted : (v : Canvas) (k : Call) (c : Color) (ps : List Point) → Shaded v k c → Dots v k (tint c ps)
+unfolding tint
+tinted v k c [] s = no-more
+tinted v k c (p ∷ ps) s = and s (tinted v k c ps s)
+
+pub shaded : (v : Canvas) → v .xor ≡ true → (k : Call) → Colored k → Dots v k (dots v k)
+unfolding dots
+shaded v x (putPixel px py color clip) c = tinted v _ color _ (record { channels = c; alike = refl; plain = ap (λ (t : Bool). plotWord (form v) t color) x })
+shaded v x (drawRect px py w h color clip) c = tinted v _ color _ (record { channels = c; alike = refl; plain = ap (λ (t : Bool). plotWord (form v) t color) x })
+shaded v x (fillRect px py w h color clip) c = tinted v _ color _ (record { channels = c; alike = refl; plain = ap (λ (t : Bool). plotWord (form v) t color) x })
 
 -- ---- the hits of a call
 
 -- a hit with the ink of a colour in XOR mode
-pub record Of (v : Canvas) (color : Color) (h : Hit) : Type 0 where
-  pub on : On v (h .x) (h .y)
-  pub inked : h .ink ≡ plotWord (form v) true color
-
 pub record Xored (v : Canvas) (h : Hit) : Type 0 where
   pub color : Color
   pub channels : Channels color
-  pub of : Of v color h
+  pub on : On v (h .x) (h .y)
+  pub inked : h .ink ≡ plotWord (form v) true color
 
 pub xored : (v : Canvas) → Family v (Xored v)
 xored v = record {
-  on = λ h o. o .of .on;
-  keeps = λ h o w l. rw (o .of .inked) (plot-keeps (form v) true (o .color) w (o .channels) l);
-  commutes = λ h k o q m m′ w l. rw (o .of .inked, q .of .inked) (plot-swap (form v) (o .color) (q .color) w (o .channels) (q .channels));
+  on = λ h o. o .on;
+  keeps = λ h o w l. rw (o .inked) (plot-keeps (form v) true (o .color) w (o .channels) l);
+  commutes = λ h k o q m m′ w l. rw (o .inked, q .inked) (plot-swap (form v) (o .color) (q .color) w (o .channels) (q .channels));
 }
 
-module _ (v : Canvas) (x : v .xor ≡ true) where
-  keep-all : (c : Color) (f : Fate) (h : Hit) (hs : List Hit) → (f ≡ landed → Of v c h) → All (Of v c) hs → All (Of v c) (keep f h hs)
-  keep-all c landed h hs e a = also (e refl) a
-  keep-all c outside h hs e a = a
-  keep-all c clipped h hs e a = a
+abbrev pub one-xored : {v : Canvas} {k : Call} (c : Clip) (d : Dot) → Shaded v k (d .color) → fate v c (plot (brush v k (d .color)) (d .x) (d .y)) ≡ landed
+    → Xored v (hitOf (plot (brush v k (d .color)) (d .x) (d .y)))
+one-xored {v} {k} c d s e = record { color = shade k (d .color); channels = s .channels; on = lands-on v c _ e; inked = s .plain }
 
-  inks-of : (c : Clip) (k : Color) (ps : List Point) → All (Of v k) (hits v c (inks (ink v k) ps))
-  unfolding hits inks
-  inks-of c k [] = none
-  inks-of c k (p ∷ ps) =
-      let q : Plot = plot (ink v k) (p .x) (p .y) in
-      keep-all k (fate v c q) (hitOf q) (hits v c (inks (ink v k) ps))
-      (λ e. record { on = lands-on v c q e; inked = ap (λ (t : Bool). plotWord (form v) t k) x }) (inks-of c k ps)
+dots-xored : (v : Canvas) (k : Call) (c : Clip) (ds : List Dot) → Dots v k ds → All (Xored v) (hits v c (dip (brush v k) ds))
+unfolding hits dip
+dots-xored v k c [] no-more = none
+dots-xored v k c (d ∷ ds) (and s ss) =
+    keep-all (fate v c (plot (brush v k (d .color)) (d .x) (d .y))) _ (hits v c (dip (brush v k) ds)) (one-xored c d s) (dots-xored v k c ds ss)
 
-  pub call-of : (k : Call) → All (Of v (colorOf k)) (hits v (clipOf k) (plots v k))
-  unfolding plots
-  call-of (putPixel px py color clip) = inks-of clip color _
-  call-of (fillRect px py w h color clip) = inks-of clip color _
-
-pub all-xored : {v : Canvas} {c : Color} {hs : List Hit} → Channels c → All (Of v c) hs → All (Xored v) hs
-all-xored ch none = none
-all-xored {c = c} ch (also o os) = also (record { color = c; channels = ch; of = o }) (all-xored ch os)
+call-xored : (v : Canvas) → v .xor ≡ true → (k : Call) → Colored k → All (Xored v) (landing v k (dots v k))
+call-xored v x k c = go (faultOf k)
+  where
+    go : (d : Verdict) → All (Xored v) (unless d (hits v (clipOf k) (plots v k)))
+    go Sound = dots-xored v k (clipOf k) (dots v k) (shaded v x k c)
+    go (Faulty r) = none
 
 -- ---- the hits of a list of calls
 
 unfoldable pub all-hits : Canvas → List Call → List Hit
 all-hits v [] = []
-all-hits v (k ∷ ks) = hits v (clipOf k) (plots v k) ++ all-hits v ks
-
-all-append : {Ok : Hit → Type 0} {hs ks : List Hit} → All Ok hs → All Ok ks → All Ok (hs ++ ks)
-all-append none b = b
-all-append (also o a) b = also o (all-append a b)
+all-hits v (k ∷ ks) = landing v k (dots v k) ++ all-hits v ks
 
 pub hits-all : (v : Canvas) → v .xor ≡ true → (ks : List Call) → Fine ks → All (Xored v) (all-hits v ks)
 unfolding all-hits
 hits-all v x [] end = none
-hits-all v x (k ∷ ks) (then c cs) = all-append (all-xored c (call-of v x k)) (hits-all v x ks cs)
+hits-all v x (k ∷ ks) (then c cs) = all-append (call-xored v x k c) (hits-all v x ks cs)
 
 hits-append : (v : Canvas) (ks ls : List Call) → all-hits v (ks ++ ls) ≡ all-hits v ks ++ all-hits v ls
 unfolding all-hits
 hits-append v [] ls = refl
 hits-append v (k ∷ ks) ls =
-    ap (λ (l : List Hit). hits v (clipOf k) (plots v k) ++ l) (hits-append v ks ls)
-    ∙ sym (append-assoc (hits v (clipOf k) (plots v k)) (all-hits v ks) (all-hits v ls))
+    ap (λ (l : List Hit). landing v k (dots v k) ++ l) (hits-append v ks ls)
+    ∙ sym (append-assoc (landing v k (dots v k)) (all-hits v ks) (all-hits v ls))
 
 perm-of : {l m : List Hit} → l ≡ m → List·Permᴰ l m
 perm-of {l} e = subst (List·Permᴰ l) e (Permᴰ·refl l)
@@ -99,33 +121,38 @@ hits-perm : (v : Canvas) {ks ls : List Call} → List·Permᴰ ks ls → List·P
 unfolding all-hits
 hits-perm v List·Permᴰ·nil = List·Permᴰ·nil
 hits-perm v (List·Permᴰ·cons {a = a} {b = b} {l₂ = l} e p) =
-    List·Permᴰ·trans (Permᴰ·append-left (hits v (clipOf a) (plots v a)) (hits-perm v p))
-    (perm-of (ap (λ (k : Call). hits v (clipOf k) (plots v k) ++ all-hits v l) e))
+    List·Permᴰ·trans (Permᴰ·append-left (landing v a (dots v a)) (hits-perm v p))
+    (perm-of (ap (λ (k : Call). landing v k (dots v k) ++ all-hits v l) e))
 hits-perm v (List·Permᴰ·swap {a = a} {b = b} {l = l} e f) =
-    let A : List Hit = hits v (clipOf a) (plots v a) in
-    let B : List Hit = hits v (clipOf b) (plots v b) in
+    let A : List Hit = landing v a (dots v a) in
+    let B : List Hit = landing v b (dots v b) in
     List·Permᴰ·trans (perm-of (sym (append-assoc A B (all-hits v l))))
     (List·Permᴰ·trans (Permᴰ·append-right (all-hits v l) (List·Permᴰ·append-comm A B))
     (List·Permᴰ·trans (perm-of (append-assoc B A (all-hits v l)))
-    (perm-of (ap₂ (λ (k j : Call). hits v (clipOf k) (plots v k) ++ (hits v (clipOf j) (plots v j) ++ all-hits v l)) f e))))
+    (perm-of (ap₂ (λ (k j : Call). landing v k (dots v k) ++ (landing v j (dots v j) ++ all-hits v l)) f e))))
 hits-perm v (List·Permᴰ·trans p q) = List·Permᴰ·trans (hits-perm v p) (hits-perm v q)
 
 -- ---- what a list of calls leaves: the paint of its hits, or, refused, the first bytes
 
-paint-length : (v : Canvas) (hs : List Hit) (b : List ℕ) → Screen v b → length (paint v hs b) ≡ length b
-paint-length v hs b s = paint-screen hs s .long ∙ sym (s .long)
+-- what one call leaves on a sound canvas
+call-paints : (v : Canvas) (k : Call) (b : List ℕ) → verdict v (length b) ≡ Sound → call v k b .bytes ≡ paint v (landing v k (dots v k)) b
+unfolding drawing orElse paint
+call-paints v k b e = rw e (go (faultOf k))
+  where
+    go : (d : Verdict) → ruled d (length (hits v (clipOf k) (plots v k))) (paint v (hits v (clipOf k) (plots v k)) b) b .bytes ≡ paint v (unless d (hits v (clipOf k) (plots v k))) b
+    go Sound = refl
+    go (Faulty r) = refl
 
 after-sound : (v : Canvas) (ks : List Call) (b : List ℕ) → Screen v b → verdict v (length b) ≡ Sound → after v ks b ≡ paint v (all-hits v ks) b
-unfolding after all-hits paint drawing
+unfolding after all-hits paint
 after-sound v [] b s e = refl
 after-sound v (k ∷ ks) b s e =
-    let hs : List Hit = hits v (clipOf k) (plots v k) in
-    let q : call v k b .bytes ≡ paint v hs b = rw e refl in
-    let e′ : verdict v (length (paint v hs b)) ≡ Sound = rw (paint-length v hs b s) e in
-    ap (after v ks) q ∙ after-sound v ks (paint v hs b) (paint-screen hs s) e′ ∙ sym (paint-append v hs (all-hits v ks) b)
+    let hs : List Hit = landing v k (dots v k) in
+    let e′ : verdict v (length (paint v hs b)) ≡ Sound = rw (paint-length v hs b) e in
+    ap (after v ks) (call-paints v k b e) ∙ after-sound v ks (paint v hs b) (paint-screen hs s) e′ ∙ sym (paint-append v hs (all-hits v ks) b)
 
 after-faulty : (v : Canvas) (ks : List Call) (b : List ℕ) (r : Refusal) → verdict v (length b) ≡ Faulty r → after v ks b ≡ b
-unfolding after drawing
+unfolding after drawing orElse
 after-faulty v [] b r e = refl
 after-faulty v (k ∷ ks) b r e = let q : call v k b .bytes ≡ b = rw e refl in ap (after v ks) q ∙ after-faulty v ks b r e
 
@@ -136,7 +163,7 @@ after-length v ks b o = go (verdict v (length b)) refl
     go (Faulty r) e = ap length (after-faulty v ks b r e)
     go Sound e =
         let s : Screen v b = record { long = sized v b e .long; bytes = o } in
-        ap length (after-sound v ks b s e) ∙ paint-length v (all-hits v ks) b s
+        ap length (after-sound v ks b s e) ∙ paint-length v (all-hits v ks) b
 
 -- an answer's number and count do not hang on the bytes
 ruled-alike : (d : Verdict) (n : ℕ) (p b p′ b′ : List ℕ) → (ruled d n p b .status ≡ ruled d n p′ b′ .status) × (ruled d n p b .count ≡ ruled d n p′ b′ .count)
@@ -151,7 +178,7 @@ pub same-answer : (v : Canvas) (k : Call) (ks : List Call) (b : List ℕ) → By
 unfolding drawing
 same-answer v k ks b o =
     rw (after-length v ks b o)
-    (ruled-alike (verdict v (length b)) (length (hits v (clipOf k) (plots v k))) (paint v (hits v (clipOf k) (plots v k)) (after v ks b)) (after v ks b)
+    (ruled-alike (orElse (verdict v (length b)) (faultOf k)) (length (hits v (clipOf k) (plots v k))) (paint v (hits v (clipOf k) (plots v k)) (after v ks b)) (after v ks b)
     (paint v (hits v (clipOf k) (plots v k)) b) b)
 
 pub any-order : (v : Canvas) (ks ls : List Call) (b : List ℕ) → v .xor ≡ true → Bytes b → Fine ks → List·Permᴰ ks ls → after v ks b ≡ after v ls b
@@ -180,4 +207,4 @@ taken-away v ks ls b x a o f p = go (verdict v (length b)) refl
         let s : Screen v b = record { long = sized v b e .long; bytes = o } in
         made-again v ks ls b x s e f p
         ∙ paint-none v (Xored v) (xored v) (all-hits v ks) b s (hits-all v x ks f)
-        (λ h q w l. rw (q .of .inked) (plot-twice (form v) (q .color) w (q .channels) ∙ settles-back (form v) (q .color) w a))
+        (λ h q w l. rw (q .inked) (plot-twice (form v) (q .color) w (q .channels) ∙ settles-back (form v) (q .color) w a))

@@ -9,21 +9,22 @@ use native.Mathlib.Decide.{ℕ-discrete}
 use borrow.Author.Tests.{eq-eqb, ne-eqb}
 use lib.Dec.{eqb}
 use lib.ListN.{length}
-use Rattle.words.specs.declared.Color.{Color}
 use Rattle.words.specs.Format.{range}
 use Rattle.words.specs.Ink.{keepsAlpha, settles}
-use Rattle.words.proofs.Laws.{Channels, plot-keeps, plot-twice}
+use Rattle.words.proofs.Laws.{plot-keeps, plot-twice}
 use Rattle.canvas.specs.declared.Canvas.{Canvas}
-use Rattle.canvas.specs.declared.faults.Verdict.the-variants.{Sound}
+use Rattle.canvas.specs.declared.Clip.{Clip}
+use Rattle.canvas.specs.declared.faults.Verdict.{Verdict}
+use Rattle.canvas.specs.declared.faults.Verdict.the-variants.{Sound, Faulty}
 use Rattle.canvas.specs.Bytes.{form, loadAt, storeAt, On}
 use Rattle.canvas.specs.Clip.{both}
 use Rattle.canvas.specs.Faults.{verdict}
-use Rattle.canvas.specs.Plot.{Hit, hits, touch, paint}
-use Rattle.canvas.specs.Call.{Call, clipOf, colorOf, plots}
-use Rattle.canvas.specs.Calls.{after, struck, veiled}
+use Rattle.canvas.specs.Plot.{plot, Dot, dip, Fate, landed, outside, clipped, fate, Hit, hitOf, keep, hits, touch, paint}
+use Rattle.canvas.specs.Call.{Call, clipOf, faultOf, dots, brush, plots}
+use Rattle.canvas.specs.Calls.{after, unless, landing, struck, visible, veiled}
 use Rattle.canvas.proofs.bytes.Pixels.{load-lt, load-store, load-other}
-use Rattle.canvas.proofs.plot.Orders.{Screen, All, none, also, paint-screen, paint-append, doubled}
-use Rattle.canvas.proofs.Reverse.{Fine, end, then, Of, Xored, xored, call-of, all-hits, made-again}
+use Rattle.canvas.proofs.plot.Orders.{Screen, paint-screen, paint-append, doubled}
+use Rattle.canvas.proofs.Reverse.{Colored, Fine, end, then, Dots, no-more, and, shaded, Xored, xored, one-xored, all-hits, made-again}
 
 -- the word with alpha 255
 abbrev pub solid : ℕ → ℕ
@@ -52,41 +53,67 @@ module _ (v : Canvas) (x y : ℕ) (o : On v x y) where
       go (yes e) (no n) = rw (eq-eqb (h .x) x e, ne-eqb (h .y) y n) (load-other v b (h .x) (h .y) _ x y on o (λ p q. n q))
       go (no n) f = rw (ne-eqb (h .x) x n) (load-other v b (h .x) (h .y) _ x y on o (λ p q. n p))
 
-  module _ (c : Color) (ch : Channels c) (a : keepsAlpha (form v) ≡ true) where
-    twice-ink : (h : Hit) → Of v c h → (w : ℕ) → h .ink (h .ink w) ≡ cond (eqb (c .a) 0) w (solid w)
-    unfolding settles
-    twice-ink h q w = rw (q .inked) (plot-twice (form v) c w ch ∙ rw a refl)
+  twice-ink : (h : Hit) (q : Xored v h) → keepsAlpha (form v) ≡ true → (w : ℕ) → h .ink (h .ink w) ≡ cond (eqb (q .color .a) 0) w (solid w)
+  unfolding settles
+  twice-ink h q a w = rw (q .inked) (plot-twice (form v) (q .color) w (q .channels) ∙ rw a refl)
 
-    twice-keeps : (h : Hit) → Of v c h → (w : ℕ) → w < range (form v) → h .ink (h .ink w) < range (form v)
-    twice-keeps h q w l = rw (q .inked) (plot-keeps (form v) true c _ ch (plot-keeps (form v) true c w ch l))
+  twice-keeps : (h : Hit) → Xored v h → (w : ℕ) → w < range (form v) → h .ink (h .ink w) < range (form v)
+  twice-keeps h q w l = rw (q .inked) (plot-keeps (form v) true (q .color) _ (q .channels) (plot-keeps (form v) true (q .color) w (q .channels) l))
 
-    by-hit : (t z u : Bool) (w : ℕ) → cond u (cond z (cond t (cond z w (solid w)) w) (solid (cond t (cond z w (solid w)) w))) (cond t (cond z w (solid w)) w)
-        ≡ cond (cond t true u) (cond z w (solid w)) w
-    by-hit true true true w = refl
-    by-hit true true false w = refl
-    by-hit true false true w = solid-twice w
-    by-hit true false false w = refl
-    by-hit false z true w = refl
-    by-hit false z false w = refl
+  -- one hit made twice, whose colour has alpha 0 or not
+  struck-twice : keepsAlpha (form v) ≡ true → (b : List ℕ) (h : Hit) (q : Xored v h) (z : Bool) → eqb (q .color .a) 0 ≡ z → Screen v b
+      → word (touch v b (twice h)) ≡ cond (both (eqb (h .x) x) (eqb (h .y) y)) (cond z (word b) (solid (word b))) (word b)
+  struck-twice a b h q z e s =
+      strike b (twice h) s (q .on) (twice-keeps h q)
+      ∙ ap (λ (k : ℕ). cond (both (eqb (h .x) x) (eqb (h .y) y)) k (word b)) (twice-ink h q a (word b) ∙ ap (λ (t : Bool). cond t (word b) (solid (word b))) e)
 
-    -- the hits of one call
-    by-call : (hs : List Hit) (b : List ℕ) → Screen v b → All (Of v c) hs → word (paint v (map twice hs) b) ≡ cond (struck hs x y) (cond (eqb (c .a) 0) (word b) (solid (word b))) (word b)
-    unfolding paint struck
-    by-call [] b s none = refl
-    by-call (h ∷ hs) b s (also q qs) =
-        let t : Bool = both (eqb (h .x) x) (eqb (h .y) y) in
-        let e : word (touch v b (twice h)) ≡ cond t (cond (eqb (c .a) 0) (word b) (solid (word b))) (word b)
-        = strike b (twice h) s (q .on) (twice-keeps h q) ∙ ap (λ (k : ℕ). cond t k (word b)) (twice-ink h q (word b)) in
-        by-call hs (touch v b (twice h)) (paint-screen (twice h ∷ []) s) qs
-        ∙ ap (λ (k : ℕ). cond (struck hs x y) (cond (eqb (c .a) 0) k (solid k)) k) e
-        ∙ by-hit t (eqb (c .a) 0) (struck hs x y) (word b)
+  by-hit : (t u : Bool) (w : ℕ) → cond u (solid (cond t (solid w) w)) (cond t (solid w) w) ≡ cond (cond t true u) (solid w) w
+  by-hit true true w = solid-twice w
+  by-hit true false w = refl
+  by-hit false u w = refl
 
-  by-list : (z t u : Bool) (w : ℕ) → cond u (solid (cond t (cond z w (solid w)) w)) (cond t (cond z w (solid w)) w) ≡ cond (cond z u (cond t true u)) (solid w) w
-  by-list true true u w = refl
-  by-list true false u w = refl
-  by-list false true true w = solid-twice w
-  by-list false true false w = refl
-  by-list false false u w = refl
+  same-word : (t : Bool) (w : ℕ) → cond t w w ≡ w
+  same-word true w = refl
+  same-word false w = refl
+
+  -- the dots of one call
+  by-dots : keepsAlpha (form v) ≡ true → (k : Call) (c : Clip) (ds : List Dot) (b : List ℕ) → Screen v b → Dots v k ds
+      → word (paint v (map twice (hits v c (dip (brush v k) ds))) b) ≡ cond (struck (hits v c (dip (brush v k) (visible ds))) x y) (solid (word b)) (word b)
+  unfolding hits dip visible paint struck
+  by-dots a k c [] b s no-more = refl
+  by-dots a k c (d ∷ ds) b s (and sh ss) = go (fate v c (plot (brush v k (d .color)) (d .x) (d .y))) refl (eqb (d .color .a) 0) refl (λ b′ s′. by-dots a k c ds b′ s′ ss)
+    where
+      go : (f : Fate) → fate v c (plot (brush v k (d .color)) (d .x) (d .y)) ≡ f → (z : Bool) → eqb (d .color .a) 0 ≡ z
+          → ((b′ : List ℕ) → Screen v b′ → word (paint v (map twice (hits v c (dip (brush v k) ds))) b′) ≡ cond (struck (hits v c (dip (brush v k) (visible ds))) x y) (solid (word b′)) (word b′))
+          → word (paint v (map twice (keep f (hitOf (plot (brush v k (d .color)) (d .x) (d .y))) (hits v c (dip (brush v k) ds)))) b)
+          ≡ cond (struck (hits v c (dip (brush v k) (cond z (visible ds) (d ∷ visible ds)))) x y) (solid (word b)) (word b)
+      go landed e true ez rest =
+          let h : Hit = hitOf (plot (brush v k (d .color)) (d .x) (d .y)) in
+          let q : Xored v h = one-xored c d sh e in
+          let g : word (touch v b (twice h)) ≡ word b = struck-twice a b h q true (sh .alike ∙ ez) s ∙ same-word (both (eqb (h .x) x) (eqb (h .y) y)) (word b) in
+          rest (touch v b (twice h)) (paint-screen (twice h ∷ []) s) ∙ ap (λ (w : ℕ). cond (struck (hits v c (dip (brush v k) (visible ds))) x y) (solid w) w) g
+      go landed e false ez rest =
+          let h : Hit = hitOf (plot (brush v k (d .color)) (d .x) (d .y)) in
+          let q : Xored v h = one-xored c d sh e in
+          let t : Bool = both (eqb (h .x) x) (eqb (h .y) y) in
+          let g : word (touch v b (twice h)) ≡ cond t (solid (word b)) (word b) = struck-twice a b h q false (sh .alike ∙ ez) s in
+          rest (touch v b (twice h)) (paint-screen (twice h ∷ []) s)
+          ∙ ap (λ (w : ℕ). cond (struck (hits v c (dip (brush v k) (visible ds))) x y) (solid w) w) g ∙ by-hit t (struck (hits v c (dip (brush v k) (visible ds))) x y) (word b) ∙ rw e refl
+      go outside e true ez rest = rest b s
+      go outside e false ez rest = rest b s ∙ rw e refl
+      go clipped e true ez rest = rest b s
+      go clipped e false ez rest = rest b s ∙ rw e refl
+
+  -- one call, accepted or refused
+  by-call : keepsAlpha (form v) ≡ true → v .xor ≡ true → (k : Call) (b : List ℕ) → Screen v b → Colored k
+      → word (paint v (map twice (landing v k (dots v k))) b) ≡ cond (struck (landing v k (visible (dots v k))) x y) (solid (word b)) (word b)
+  unfolding paint struck
+  by-call a xo k b s c = go (faultOf k)
+    where
+      go : (d : Verdict) → word (paint v (map twice (unless d (hits v (clipOf k) (plots v k)))) b)
+          ≡ cond (struck (unless d (hits v (clipOf k) (dip (brush v k) (visible (dots v k))))) x y) (solid (word b)) (word b)
+      go Sound = by-dots a k (clipOf k) (dots v k) b s (shaded v xo k c)
+      go (Faulty r) = refl
 
   map-append : (hs ks : List Hit) → map twice (hs ++ ks) ≡ map twice hs ++ map twice ks
   map-append [] ks = refl
@@ -96,13 +123,13 @@ module _ (v : Canvas) (x y : ℕ) (o : On v x y) where
   unfolding all-hits veiled paint
   by-calls a xo [] b s end = refl
   by-calls a xo (k ∷ ks) b s (then ch cs) =
-      let hs : List Hit = hits v (clipOf k) (plots v k) in
+      let hs : List Hit = landing v k (dots v k) in
       let b′ : List ℕ = paint v (map twice hs) b in
       ap (λ (l : List Hit). word (paint v l b)) (map-append hs (all-hits v ks))
       ∙ ap word (paint-append v (map twice hs) (map twice (all-hits v ks)) b)
       ∙ by-calls a xo ks b′ (paint-screen (map twice hs) s) cs
-      ∙ ap (λ (w : ℕ). cond (veiled v ks x y) (solid w) w) (by-call (colorOf k) ch a hs b s (call-of v xo k))
-      ∙ by-list (eqb (colorOf k .a) 0) (struck hs x y) (veiled v ks x y) (word b)
+      ∙ ap (λ (w : ℕ). cond (veiled v ks x y) (solid w) w) (by-call a xo k b s ch)
+      ∙ by-hit (struck (landing v k (visible (dots v k))) x y) (veiled v ks x y) (word b)
 
 -- accepted calls, made and made again in any order: the word at every pixel
 pub colors-back : (v : Canvas) (ks ls : List Call) (b : List ℕ) → v .xor ≡ true → keepsAlpha (form v) ≡ true → Screen v b → verdict v (length b) ≡ Sound → Fine ks → List·Permᴰ ks ls

@@ -1,2 +1,3 @@
 -- The laws of boxes.
 pub mod Boxes
+pub mod Outline

@@ -1,11 +1,13 @@
--- The points of a box that are on the canvas.
-use mathlib.Core.Bool.{Bool, cond}
+-- Boxes: the points that a fill and an outline plot.
+use mathlib.Core.Bool.{Bool, cond, _||_}
 use mathlib.Core.List.{List, [], _∷_, _++_}
-use Prim.Native.Nat.{ℕ, zero, suc}
-use lib.IntN.{ℤ, pos}
+use Prim.Native.Nat.{ℕ, zero, suc, _-_}
+use lib.Dec.{eqb}
+use lib.IntN.{ℤ, pos, _+ℤ_}
+use lib.Signed.{ltZ}
 use Rattle.canvas.specs.declared.Canvas.{Canvas}
 use Rattle.canvas.specs.Clip.{within}
-use Rattle.canvas.specs.Plot.{Point, at}
+use Rattle.canvas.specs.Plot.{Point, at, Plot, plot}
 
 -- Those of the n numbers from i on that pass a test.
 unfoldable pub select : (ℕ → Bool) → ℕ → ℕ → List ℕ
@@ -21,6 +23,27 @@ unfoldable pub each : {A : Type 0} → (ℕ → List A) → List ℕ → List A
 each g [] = []
 each g (x ∷ xs) = g x ++ each g xs
 
+-- A plot at each pixel of some columns and rows, row by row; its ink may hang on the pixel.
+unfoldable pub spots : (ℕ → ℕ → ℕ → ℕ) → List ℕ → List ℕ → List Plot
+spots f xs ys = each (λ j. each (λ i. plot (f i j) (pos i) (pos j) ∷ []) xs) ys
+
 -- The overlap of a box and the canvas, row by row.
 unfoldable pub fill : Canvas → ℤ → ℤ → ℕ → ℕ → List Point
 fill v x y w h = each (λ j. each (λ i. at (pos i) (pos j) ∷ []) (side x w (v .width))) (side y h (v .height))
+
+-- A point, if its place a is below n.
+abbrev pub below : ℤ → ℕ → Point → List Point
+below a n p = cond (ltZ a (pos n)) (p ∷ []) []
+
+-- The top row at any y and the bottom row only if below the height, then the left column at any x and the right column
+-- only if below the width.
+unfoldable pub border : Canvas → ℤ → ℤ → ℕ → ℕ → List Point
+border v x y w h =
+    let right = x +ℤ pos (w - 1) in
+    let bottom = y +ℤ pos (h - 1) in
+    each (λ i. at (pos i) y ∷ below bottom (v .height) (at (pos i) bottom)) (side x w (v .width))
+    ++ each (λ j. at x (pos j) ∷ below right (v .width) (at right (pos j))) (side (y +ℤ pos 1) (h - 2) (v .height))
+
+-- "A rectangle outline with w or h 0 is nothing, else with w or h 1 a fill; otherwise each border point is plotted once."
+unfoldable pub outline : Canvas → ℤ → ℤ → ℕ → ℕ → List Point
+outline v x y w h = cond (eqb w 0 || eqb h 0) [] (cond (eqb w 1 || eqb h 1) (fill v x y w h) (border v x y w h))

@@ -12,30 +12,40 @@ use Rattle.canvas.specs.declared.Drawn.the-variants.{Refused, Done}
 use Rattle.canvas.specs.declared.faults.Verdict.{Verdict}
 use Rattle.canvas.specs.declared.faults.Verdict.the-variants.{Sound, Faulty}
 use Rattle.canvas.specs.Bytes.{form}
-use Rattle.canvas.specs.Faults.{number, verdict}
-use Rattle.canvas.specs.Plot.{Plot, at, inks, hits, paint}
-use Rattle.canvas.specs.Boxes.{fill}
+use Rattle.canvas.specs.Faults.{number, orElse, verdict}
+use Rattle.canvas.specs.Plot.{Plot, at, Dot, tint, dip, hits, paint}
+use Rattle.canvas.specs.Boxes.{fill, outline}
 
 pub data Call : Type 0 where
   putPixel : ℤ → ℤ → Color → Clip → Call
+  drawRect : ℤ → ℤ → ℕ → ℕ → Color → Clip → Call
   fillRect : ℤ → ℤ → ℕ → ℕ → Color → Clip → Call
 
 abbrev pub clipOf : Call → Clip
 clipOf (putPixel x y color clip) = clip
+clipOf (drawRect x y w h color clip) = clip
 clipOf (fillRect x y w h color clip) = clip
 
-abbrev pub colorOf : Call → Color
-colorOf (putPixel x y color clip) = color
-colorOf (fillRect x y w h color clip) = color
+-- Its faults beside those of the canvas.
+abbrev pub faultOf : Call → Verdict
+faultOf (putPixel x y color clip) = Sound
+faultOf (drawRect x y w h color clip) = Sound
+faultOf (fillRect x y w h color clip) = Sound
 
--- What a plot of a colour makes of the word stored on this canvas.
-abbrev pub ink : Canvas → Color → ℕ → ℕ
-ink v color = plotWord (form v) (v .xor) color
+-- Its points with their colours, on the canvas or off it, in the order of its rules.
+unfoldable pub dots : Canvas → Call → List Dot
+dots v (putPixel x y color clip) = tint color (at x y ∷ [])
+dots v (drawRect x y w h color clip) = tint color (outline v x y w h)
+dots v (fillRect x y w h color clip) = tint color (fill v x y w h)
 
--- All the plots of a call, in the order of its rules.
-unfoldable pub plots : Canvas → Call → List Plot
-plots v (putPixel x y color clip) = inks (ink v color) (at x y ∷ [])
-plots v (fillRect x y w h color clip) = inks (ink v color) (fill v x y w h)
+-- What a colour makes of the word stored on this canvas.
+abbrev pub brush : Canvas → Call → Color → ℕ → ℕ
+brush v (putPixel x y color clip) = plotWord (form v) (v .xor)
+brush v (drawRect x y w h color clip) = plotWord (form v) (v .xor)
+brush v (fillRect x y w h color clip) = plotWord (form v) (v .xor)
+
+abbrev pub plots : Canvas → Call → List Plot
+plots v k = dip (brush v k) (dots v k)
 
 -- What a caller gets back, and what the lent bytes hold then.
 pub record Outcome : Type 0 where
@@ -64,8 +74,9 @@ ruled Sound n painted b = outcome 0 n painted
 ruled (Faulty r) n painted b = outcome (number r) 0 b
 
 -- "a count ..: the pixels touched, being the number of plots that land on the canvas and inside the clip"
-unfoldable pub drawing : Canvas → Clip → List Plot → List ℕ → Outcome
-drawing v c ps b = ruled (verdict v (length b)) (length (hits v c ps)) (paint v (hits v c ps) b) b
+unfoldable pub drawing : Verdict → Canvas → Clip → List Plot → List ℕ → Outcome
+drawing d v c ps b = ruled d (length (hits v c ps)) (paint v (hits v c ps) b) b
 
+-- The faults of the canvas come before the call's own.
 abbrev pub call : Canvas → Call → List ℕ → Outcome
-call v k b = drawing v (clipOf k) (plots v k) b
+call v k b = drawing (orElse (verdict v (length b)) (faultOf k)) v (clipOf k) (plots v k) b

@@ -7,7 +7,7 @@ use lib.Dec.{ltb, eqb}
 use lib.ListN.{length}
 use Rattle.canvas.specs.declared.Canvas.{Canvas}
 use Rattle.canvas.specs.declared.Refusal.{Refusal}
-use Rattle.canvas.specs.declared.Refusal.the-variants.{Format, Size, Length}
+use Rattle.canvas.specs.declared.Refusal.the-variants.{Format, Size, Length, Source}
 use Rattle.canvas.specs.declared.faults.Verdict.{Verdict}
 use Rattle.canvas.specs.declared.faults.Verdict.the-variants.{Sound, Faulty}
 use Rattle.canvas.specs.Bytes.{extent}
@@ -17,6 +17,7 @@ unfoldable pub number : Refusal → ℕ
 number Format = 1
 number Size = 2
 number Length = 3
+number Source = 4
 
 -- "1 FORMAT: format above 4"
 unfoldable pub formatFault : Canvas → Verdict
@@ -37,6 +38,11 @@ orElse (Faulty r) d = Faulty r
 
 unfoldable pub verdict : Canvas → ℕ → Verdict
 verdict v n = orElse (formatFault v) (orElse (sizeFault v) (lengthFault v n))
+
+-- "4 SOURCE: `draw`: the source fails any of 1 to 3"
+abbrev pub asSource : Verdict → Verdict
+asSource Sound = Sound
+asSource (Faulty r) = Faulty Source
 
 -- What an inner function may count on: a canvas that is not refused.
 pub record Sized (v : Canvas) (b : List ℕ) : Type 0 where

@@ -5,5 +5,6 @@ pub mod Plot
 pub mod Boxes
 pub mod Call
 pub mod Calls
+pub mod Areas
 pub mod Look
 pub mod Walk

@@ -3,6 +3,7 @@ use mathlib.Core.Bool.{Bool, true, false}
 use mathlib.Core.List.{List, [], _∷_}
 use Prim.Native.Nat.{ℕ}
 use lib.IntN.{ℤ, pos, natAbs}
+use Rattle.words.specs.declared.Color.{Color}
 use Rattle.canvas.specs.declared.Canvas.{Canvas}
 use Rattle.canvas.specs.declared.Clip.{Clip}
 use Rattle.canvas.specs.Bytes.{loadAt, storeAt}
@@ -29,6 +30,24 @@ plot f x y = record { x = x; y = y; ink = f }
 unfoldable pub inks : (ℕ → ℕ) → List Point → List Plot
 inks f [] = []
 inks f (p ∷ ps) = plot f (p .x) (p .y) ∷ inks f ps
+
+-- A point, and the colour plotted there.
+pub record Dot : Type 0 where
+  pub x : ℤ
+  pub y : ℤ
+  pub color : Color
+
+abbrev pub dot : Color → ℤ → ℤ → Dot
+dot c x y = record { x = x; y = y; color = c }
+
+unfoldable pub tint : Color → List Point → List Dot
+tint c [] = []
+tint c (p ∷ ps) = dot c (p .x) (p .y) ∷ tint c ps
+
+-- The plots of dots, by what a colour makes of the word stored.
+unfoldable pub dip : (Color → ℕ → ℕ) → List Dot → List Plot
+dip g [] = []
+dip g (d ∷ ds) = plot (g (d .color)) (d .x) (d .y) ∷ dip g ds
 
 unfoldable pub onCanvas : Canvas → ℤ → ℤ → Bool
 onCanvas v x y = both (within (pos 0) (v .width) x) (within (pos 0) (v .height) y)

@@ -1,16 +1,20 @@
 -- What the contracts of the inner functions speak of; no public contract cites this file.
 use mathlib.Core.Path.{_≡_}
+use mathlib.Core.Bool.{Bool, true, false}
 use mathlib.Core.List.{List, [], _∷_}
 use Prim.Native.Nat.{ℕ, zero, suc, _+_, _-_, _<_, _≤_}
 use lib.IntN.{ℤ, pos, negsuc, subℕ}
-use lib.Dec.{leb, ltb}
+use Rattle.words.specs.declared.Ink.{Ink}
+use Rattle.words.specs.Format.{range}
+use Rattle.words.specs.Ink.{inked}
 use Rattle.canvas.specs.declared.Canvas.{Canvas}
 use Rattle.canvas.specs.declared.Clip.{Clip}
 use Rattle.canvas.specs.declared.Tally.{Tally}
+use Rattle.canvas.specs.Bytes.{load, store, cells, form}
 use Rattle.canvas.specs.Faults.{Sized}
-use Rattle.canvas.specs.Clip.{both, within, inClip}
-use Rattle.canvas.specs.Boxes.{side, each}
-use Rattle.canvas.specs.Plot.{Plot, plot, Fate, landed, outside, clipped, fate, hitOf, touch}
+use Rattle.canvas.specs.Clip.{both, within}
+use Rattle.canvas.specs.Boxes.{select, each}
+use Rattle.canvas.specs.Plot.{Plot, Fate, landed, outside, clipped, fate, Hit, hit, hitOf, touch}
 
 -- A signed number of 32 bits as one that is not negative, 2^31 above it; and back.
 unfoldable pub lifted : ℤ → ℕ
@@ -25,18 +29,21 @@ unfoldable pub run : ℕ → ℕ → List ℕ
 run i zero = []
 run i (suc n) = i ∷ run (suc i) n
 
--- What `clamp_span` answers: the part of a side of n pixels that lies in the span of len from a.
-pub record Clamped (a : ℤ) (len n from to : ℕ) : Type 0 where
-  pub low : from ≤ 2147483648
-  pub held : to ≤ n
-  pub same : run from (to - from) ≡ side a len n
-  pub among : (x : ℕ) → x < n → both (leb from x) (ltb x to) ≡ within a len (pos x)
+-- A test of numbers that holds from lo up to end, and nowhere else.
+pub record Holds (t : ℕ → Bool) (lo end : ℕ) : Type 0 where
+  pub before : (k : ℕ) → k < lo → t k ≡ false
+  pub inside : (k : ℕ) → lo ≤ k → k < end → t k ≡ true
+  pub past : (k : ℕ) → end ≤ k → t k ≡ false
 
--- The columns of row y of the canvas that are inside the clip: n of them from one on.
-pub record Inner (v : Canvas) (c : Clip) (y from n : ℕ) : Type 0 where
-  pub low : from ≤ 2147483648
-  pub few : n ≤ 32767
-  pub inner : (x : ℕ) → x < v .width → both (leb from x) (ltb x (from + n)) ≡ inClip c (pos x) (pos y)
+-- What `cut` answers: of a side of n pixels, those from lo up to end that lie in the clip's span of m from c.
+pub record Cut (lo end : ℕ) (c : ℤ) (m n from to : ℕ) : Type 0 where
+  pub ordered : from ≤ to
+  pub held : to ≤ n
+  pub same : (t : ℕ → Bool) → Holds t lo end → run from (to - from) ≡ select (λ i. both (t i) (within c m (pos i))) 0 n
+
+-- What a touch of the s bytes from o on leaves.
+pub record Touched (s o : ℕ) (f : ℕ → ℕ) (b b′ : List ℕ) : Type 0 where
+  pub same : b′ ≡ store (cells s o) b (f (load (cells s o) b))
 
 -- The tally with one plot more.
 abbrev pub note : Fate → Tally → Tally
@@ -75,16 +82,24 @@ pub record Ready (v : Canvas) (c : Clip) (ps : List Plot) (w : Work) : Type 0 wh
   pub sized : Sized v (w .bytes)
   pub room : Fits (drawn v c ps w .tally)
 
+-- An ink that makes words of words.
+pub record Keeps (v : Canvas) (i : Ink) : Type 0 where
+  pub keeps : (w : ℕ) → w < range (form v) → inked i w < range (form v)
+
 -- The plots were made.
 pub record Did (v : Canvas) (c : Clip) (ps : List Plot) (w w′ : Work) : Type 0 where
   pub same : w′ ≡ drawn v c ps w
 
--- The plots of a part of a row, and of a box.
-unfoldable pub point : (ℕ → ℕ) → ℕ → ℕ → List Plot
-point f y x = plot f (pos x) (pos y) ∷ []
+-- A hit on a pixel whose ink hangs on the pixel, and those of a part of a row and of a box.
+unfoldable pub mark : (ℕ → ℕ → ℕ → ℕ) → ℕ → ℕ → List Hit
+mark f y x = hit (f x y) x y ∷ []
 
-abbrev pub row : (ℕ → ℕ) → List ℕ → ℕ → List Plot
-row f xs y = each (point f y) xs
+abbrev pub marks : (ℕ → ℕ → ℕ → ℕ) → List ℕ → ℕ → List Hit
+marks f xs y = each (mark f y) xs
 
-abbrev pub box : (ℕ → ℕ) → List ℕ → List ℕ → List Plot
-box f xs ys = each (row f xs) ys
+abbrev pub field : (ℕ → ℕ → ℕ → ℕ) → List ℕ → List ℕ → List Hit
+field f xs ys = each (marks f xs) ys
+
+-- One ink everywhere.
+abbrev pub flat : (ℕ → ℕ) → ℕ → ℕ → ℕ → ℕ
+flat f x y = f

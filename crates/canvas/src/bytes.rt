@@ -1,6 +1,5 @@
 // How a canvas's bytes hold the words of its pixels.
 ghost use mathlib.Core.Path.{_≡_};
-ghost use mathlib.Core.Bool.{cond};
 ghost use Prim.Native.Nat.{_+_, _*_, _≤_, _<_};
 ghost use lib.ListN.{length};
 ghost use Rattle.words.specs.Format.{range};
@@ -8,6 +7,7 @@ ghost use Rattle.words.specs.Ink.{inked};
 ghost use Rattle.canvas.specs.Bytes.{load, store, cells, form, size, extent, loadAt, storeAt, On};
 ghost use Rattle.canvas.specs.Faults.{Sized};
 ghost use Rattle.canvas.specs.Plot.{hit, touch};
+ghost use Rattle.canvas.specs.Walk.{Touched};
 use crate::Canvas;
 use words::Ink;
 
@@ -68,6 +68,28 @@ fn put4(b: &mut [u8], o: usize, w: u32)
     b[o + 3] = (w3 % 256) as u8;
 }
 
+// The word at an offset, inked.
+pub(crate) fn touch1(b: &mut [u8], o: usize, ink: Ink)
+    requires { ⌜ o + 1 ≤ length (now b) ⌝ }
+    ensures { λ _. ⌜ Touched 1 o (inked ink) (now (b .entry)) (now (b .exit)) ⌝ }
+{
+    put1(b, o, ink.on(word1(b, o)));
+}
+
+pub(crate) fn touch2(b: &mut [u8], o: usize, ink: Ink)
+    requires { ⌜ o + 2 ≤ length (now b) ⌝ }
+    ensures { λ _. ⌜ Touched 2 o (inked ink) (now (b .entry)) (now (b .exit)) ⌝ }
+{
+    put2(b, o, ink.on(word2(b, o)));
+}
+
+pub(crate) fn touch4(b: &mut [u8], o: usize, ink: Ink)
+    requires { ⌜ o + 4 ≤ length (now b) ⌝ }
+    ensures { λ _. ⌜ Touched 4 o (inked ink) (now (b .entry)) (now (b .exit)) ⌝ }
+{
+    put4(b, o, ink.on(word4(b, o)));
+}
+
 // The bytes of a canvas.
 pub(crate) fn extent_of(canvas: Canvas) -> usize
     requires { ⌜ (canvas .width ≤ 32767) × (canvas .height ≤ 32767) ⌝ }
@@ -77,14 +99,21 @@ pub(crate) fn extent_of(canvas: Canvas) -> usize
     area * words::bytes_per_pixel(canvas.format)
 }
 
+// A pixel's number in the rows.
+pub(crate) fn index(canvas: Canvas, x: usize, y: usize) -> usize
+    requires { ⌜ (On canvas x y) × ((canvas .width ≤ 32767) × (canvas .height ≤ 32767)) ⌝ }
+    ensures { λ r. ⌜ (r ≡ y * canvas .width + x) × (r ≤ 1073676289) ⌝ }
+{
+    let w = canvas.width as usize;
+    y * w + x
+}
+
 // Where a pixel's bytes start.
 fn offset(canvas: Canvas, x: usize, y: usize) -> usize
     requires { ⌜ (On canvas x y) × ((canvas .width ≤ 32767) × (canvas .height ≤ 32767)) ⌝ }
     ensures { λ r. ⌜ r ≡ (y * canvas .width + x) * size canvas ⌝ }
 {
-    let w = canvas.width as usize;
-    let k = y * w + x;
-    k * words::bytes_per_pixel(canvas.format)
+    index(canvas, x, y) * words::bytes_per_pixel(canvas.format)
 }
 
 // The word of a pixel.
@@ -101,34 +130,16 @@ pub(crate) fn load_at(canvas: Canvas, b: &[u8], x: usize, y: usize) -> u32
     }
 }
 
-fn pick(t: bool, a: u32, b: u32) -> u32
-    ensures { λ r. ⌜ r ≡ cond t a b ⌝ }
-{
-    if t {
-        return a;
-    }
-    b
-}
-
-// The word of a pixel, inked or written back.
-pub(crate) fn touch_at(canvas: Canvas, b: &mut [u8], x: usize, y: usize, inside: bool, ink: Ink)
+// The word of a pixel, inked.
+pub(crate) fn touch_at(canvas: Canvas, b: &mut [u8], x: usize, y: usize, ink: Ink)
     requires { ⌜ (Sized canvas (now b)) × (On canvas x y) ⌝ }
-    ensures { λ _. ⌜ now (b .exit) ≡ touch canvas (now (b .entry)) (hit (λ w. cond inside (inked ink w) w) x y) ⌝ }
+    ensures { λ _. ⌜ now (b .exit) ≡ touch canvas (now (b .entry)) (hit (inked ink) x y) ⌝ }
 {
     let o = offset(canvas, x, y);
     let f = canvas.format;
     match f {
-        0 => {
-            let w = word1(b, o);
-            put1(b, o, pick(inside, ink.on(w), w));
-        }
-        1 => {
-            let w = word2(b, o);
-            put2(b, o, pick(inside, ink.on(w), w));
-        }
-        _ => {
-            let w = word4(b, o);
-            put4(b, o, pick(inside, ink.on(w), w));
-        }
+        0 => touch1(b, o, ink),
+        1 => touch2(b, o, ink),
+        _ => touch4(b, o, ink),
     }
 }

@@ -4,13 +4,17 @@ ghost use Rattle.canvas.specs.Faults.{number};
 ghost use Rattle.canvas.specs.Clip.{intersection};
 ghost use Rattle.canvas.specs.Call.{statusOf, countOf};
 
+mod areas;
 mod boxes;
 mod bytes;
 mod faults;
 mod look;
 mod plot;
+mod rows;
 mod span;
 
+pub use areas::invert_rect;
+pub use boxes::draw_rect;
 pub use boxes::fill_rect;
 pub use look::get_pixel;
 pub use plot::put_pixel;
@@ -36,6 +40,7 @@ pub enum Refusal {
     Format,
     Size,
     Length,
+    Source,
 }
 
 // What became of the plots so far.
@@ -65,6 +70,7 @@ impl Refusal {
             Refusal::Format => 1,
             Refusal::Size => 2,
             Refusal::Length => 3,
+            Refusal::Source => 4,
         }
     }
 }

@@ -1,15 +1,10 @@
 // Plots: the landing of a point, and the call of one plot.
 ghost use mathlib.Core.Path.{_≡_};
 ghost use mathlib.Core.List.{[], _∷_};
-ghost use mathlib.Core.Bool.{cond};
-ghost use Prim.Native.Nat.{_+_, _≤_, _<_};
-ghost use lib.IntN.{pos};
 ghost use Rattle.words.specs.Ink.{inked};
-ghost use Rattle.canvas.specs.Bytes.{On};
-ghost use Rattle.canvas.specs.Clip.{inClip};
 ghost use Rattle.canvas.specs.Plot.{plot};
 ghost use Rattle.canvas.specs.Call.{putPixel, leaves, call};
-ghost use Rattle.canvas.specs.Walk.{lowered, plus, work, point, Fits, Ready, Did};
+ghost use Rattle.canvas.specs.Walk.{lowered, plus, work, Fits, Ready, Did};
 use crate::Canvas;
 use crate::Clip;
 use crate::Drawn;
@@ -18,45 +13,13 @@ use crate::faults::Verdict;
 use words::Color;
 use words::Ink;
 
-// One plot more that landed, or none.
-fn noted(n: u32, inside: bool) -> u32
-    requires { ⌜ n < 4294967295 ⌝ }
-    ensures { λ r. ⌜ r ≡ n + cond inside 1 0 ⌝ }
-{
-    if inside {
-        return n + 1;
-    }
-    n
-}
-
-// A plot at a point of the canvas, inside the clip or not; n more than the tally have landed before it. One that is not
-// inside writes the old word back, so that a row of plots has no branch, and n is narrow, so that a row goes four at a
-// time.
-pub(crate) fn plot_in(
-    canvas: Canvas,
-    b: &mut [u8],
-    x: usize,
-    y: usize,
-    inside: bool,
-    ink: Ink,
-    clip: Clip,
-    t: Tally,
-    n: u32,
-) -> u32
-    requires { ⌜ (Ready canvas clip (point (inked ink) y x) (work (now b) (plus t n))) × ((On canvas x y) × ((inside ≡ inClip clip (pos x) (pos y)) × (n < 4294967295))) ⌝ }
-    ensures { λ r. ⌜ (Did canvas clip (point (inked ink) y x) (work (now (b .entry)) (plus t n)) (work (now (b .exit)) (plus t r))) × (r ≤ n + 1) ⌝ }
-{
-    crate::bytes::touch_at(canvas, b, x, y, inside, ink);
-    noted(n, inside)
-}
-
 // The tally with n more that landed.
-pub(crate) fn landed_more(t: Tally, n: u32) -> Tally
+pub(crate) fn landed_more(t: Tally, n: u64) -> Tally
     requires { ⌜ Fits (plus t n) ⌝ }
     ensures { λ r. ⌜ r ≡ plus t n ⌝ }
 {
     Tally {
-        landed: t.landed + n as u64,
+        landed: t.landed + n,
     }
 }
 
@@ -89,9 +52,11 @@ pub(crate) fn plot_at(
     }
     let x = px as usize;
     let y = py as usize;
-    let inside = crate::span::in_clip(clip, x, y);
-    let n = plot_in(canvas, b, x, y, inside, ink, clip, t, 0);
-    landed_more(t, n)
+    if !crate::span::in_clip(clip, x, y) {
+        return t;
+    }
+    crate::bytes::touch_at(canvas, b, x, y, ink);
+    landed_more(t, 1)
 }
 
 // One plot, anywhere.

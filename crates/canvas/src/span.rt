@@ -1,10 +1,9 @@
 // Spans and clips: signed corners become numbers that are not negative at the door.
 ghost use mathlib.Core.Path.{_≡_};
 ghost use Prim.Native.Nat.{_+_, _-_, _≤_, _<_, min, max};
-ghost use lib.Dec.{leb, ltb};
 ghost use lib.IntN.{pos};
-ghost use Rattle.canvas.specs.Clip.{both, within, inClip, larger, shared};
-ghost use Rattle.canvas.specs.Walk.{lifted, Clamped};
+ghost use Rattle.canvas.specs.Clip.{within, inClip, larger, shared};
+ghost use Rattle.canvas.specs.Walk.{lifted, Cut};
 use crate::Clip;
 
 // A signed number as one that is not negative, 2^31 above it.
@@ -14,14 +13,14 @@ pub(crate) fn lift(x: i32) -> u64
     (x as i64 + 2147483648) as u64
 }
 
-// What is above the zero of a lifted number.
-fn above(u: u64) -> u64
-    ensures { λ r. ⌜ r ≡ u - 2147483648 ⌝ }
+// What a has above b.
+fn less(a: u64, b: u64) -> u64
+    ensures { λ r. ⌜ r ≡ a - b ⌝ }
 {
-    if u < 2147483648 {
+    if a < b {
         return 0;
     }
-    u - 2147483648
+    a - b
 }
 
 fn least(a: u64, b: u64) -> u64
@@ -66,31 +65,37 @@ pub(crate) fn in_clip(clip: Clip, x: usize, y: usize) -> bool
     false
 }
 
-// Whether x is one of the n numbers from a start on. The difference wraps where x lies before the start, and is then
-// too large.
-pub(crate) fn among(from: u32, n: u32, x: u32) -> bool
-    requires { ⌜ (from ≤ 2147483648) × (n ≤ 32767) ⌝ }
-    ensures { λ r. ⌜ r ≡ both (leb from x) (ltb x (from + n)) ⌝ }
-{
-    std::num::wrapping_sub_u32(x, from) < n
-}
-
 // Columns or rows of the canvas, from one up to but not including another.
 pub(crate) struct Span {
     pub(crate) from: usize,
     pub(crate) to: usize,
 }
 
-// The part of a canvas's side of n pixels that lies in the span of len from a.
-pub(crate) fn clamp_span(a: i32, len: u32, n: u32) -> Span
-    requires { ⌜ n ≤ 32767 ⌝ }
-    ensures { λ r. ⌜ Clamped a len n (r .from) (r .to) ⌝ }
+// The span of len from u, as it is seen from z: what lies before z is cut off.
+pub(crate) fn reach(u: u64, len: u32, z: u64) -> Span
+    requires { ⌜ u < 17179869184 ⌝ }
+    ensures { λ r. ⌜ (r .from ≡ u - z) × (r .to ≡ u + len - z) ⌝ }
 {
-    let u = lift(a);
-    let e = u + len as u64;
-    let from = above(u);
-    let end = above(e);
+    let from = less(u, z);
+    let to = less(u + len as u64, z);
+    Span {
+        from: from as usize,
+        to: to as usize,
+    }
+}
+
+// What a span has of a canvas's side of n pixels inside the clip's span of m from c.
+pub(crate) fn cut(s: Span, c: i32, m: u32, n: u32) -> Span
+    requires { ⌜ n ≤ 32767 ⌝ }
+    ensures { λ r. ⌜ Cut (s .from) (s .to) c m n (r .from) (r .to) ⌝ }
+{
+    let k = reach(lift(c), m, 2147483648);
+    let from = most(s.from as u64, k.from as u64);
+    let end = least(s.to as u64, k.to as u64);
     let to = least(end, n as u64);
+    if to < from {
+        return Span { from: 0, to: 0 };
+    }
     Span {
         from: from as usize,
         to: to as usize,

@@ -1,4 +1,4 @@
--- A fill's plots are those of a box of runs, and few enough to be counted.
+-- Boxes of plots: what of them lands, and how many there are.
 use mathlib.Core.Path.{_≡_, refl, sym, ap, ap₂, _∙_}
 use mathlib.Core.Bool.{Bool, true, false, cond}
 use mathlib.Core.List.{List, [], _∷_, _++_}
@@ -11,44 +11,149 @@ use mir.Syntax.{w32}
 use mir.Val.{SFits, toZ, ofZ}
 use mir.ValLaws.{toZ-ofZ}
 use Rattle.canvas.specs.declared.Canvas.{Canvas}
-use Rattle.canvas.specs.Plot.{Point, at, Plot, plot, inks}
-use Rattle.canvas.specs.Clip.{within}
-use Rattle.canvas.specs.Boxes.{select, side, each, fill}
-use Rattle.canvas.specs.Walk.{point, row, box}
+use Rattle.canvas.specs.declared.Clip.{Clip}
+use Rattle.canvas.specs.declared.Tally.{Tally}
+use Rattle.canvas.specs.Plot.{Point, at, Plot, plot, inks, Fate, landed, outside, clipped, fate, Hit, hit, hitOf, keep, hits, paint}
+use Rattle.canvas.specs.Clip.{both, within, inClip}
+use Rattle.canvas.specs.Boxes.{select, side, each, spots, fill}
+use Rattle.canvas.specs.Walk.{lowered, run, Cut, plus, Work, work, Fits, Ready, Did, mark, marks, field, flat}
 use Rattle.canvas.proofs.bytes.Places.{area-le}
-use Rattle.canvas.proofs.plot.Paints.{inks-length}
+use Rattle.canvas.proofs.span.Spans.{both-no, span-holds}
+use Rattle.canvas.proofs.plot.Fates.{on-canvas, is-inside}
+use Rattle.canvas.proofs.plot.Paints.{inks-length, drawn-is}
+use Rattle.canvas.proofs.rows.Rows.{field-length}
 
-inks-append : (f : ℕ → ℕ) (ps qs : List Point) → inks f (ps ++ qs) ≡ inks f ps ++ inks f qs
+pub inks-append : (f : ℕ → ℕ) (ps qs : List Point) → inks f (ps ++ qs) ≡ inks f ps ++ inks f qs
 unfolding inks
 inks-append f [] qs = refl
 inks-append f (p ∷ ps) qs = ap (λ (l : List Plot). plot f (p .x) (p .y) ∷ l) (inks-append f ps qs)
 
-inks-each : (f : ℕ → ℕ) (g : ℕ → List Point) (h : ℕ → List Plot) (xs : List ℕ) → ((x : ℕ) → inks f (g x) ≡ h x) → inks f (each g xs) ≡ each h xs
+pub inks-each : (f : ℕ → ℕ) (g : ℕ → List Point) (h : ℕ → List Plot) (xs : List ℕ) → ((x : ℕ) → inks f (g x) ≡ h x) → inks f (each g xs) ≡ each h xs
 unfolding each inks
 inks-each f g h [] e = refl
 inks-each f g h (x ∷ xs) e = inks-append f (g x) (each g xs) ∙ ap₂ (λ (l m : List Plot). l ++ m) (e x) (inks-each f g h xs e)
 
-pub fill-is : (v : Canvas) (f : ℕ → ℕ) (x y : ℤ) (w h : ℕ) → inks f (fill v x y w h) ≡ box f (side x w (v .width)) (side y h (v .height))
-unfolding fill point inks
-fill-is v f x y w h =
-    inks-each f (λ j. each (λ i. at (pos i) (pos j) ∷ []) (side x w (v .width))) (row f (side x w (v .width))) (side y h (v .height))
-    (λ j. inks-each f (λ i. at (pos i) (pos j) ∷ []) (point f j) (side x w (v .width)) (λ i. refl))
+-- ---- what lands of plots at pixels: those of the columns and rows inside the clip
 
--- a canvas with its own format written out
-pub refit : (v r : Canvas) (n : ℕ) → v .format ≡ n → r ≡ record { format = n; width = v .width; height = v .height; xor = v .xor } → r ≡ v
-refit v r n e h = h ∙ ap (λ (m : ℕ). record { format = m; width = v .width; height = v .height; xor = v .xor }) (sym e)
+pub hits-append : (v : Canvas) (c : Clip) (ps qs : List Plot) → hits v c (ps ++ qs) ≡ hits v c ps ++ hits v c qs
+unfolding hits
+hits-append v c [] qs = refl
+hits-append v c (p ∷ ps) qs = ap (keep (fate v c p) (hitOf p)) (hits-append v c ps qs) ∙ go (fate v c p)
+  where
+    go : (f : Fate) → keep f (hitOf p) (hits v c ps ++ hits v c qs) ≡ keep f (hitOf p) (hits v c ps) ++ hits v c qs
+    go landed = refl
+    go outside = refl
+    go clipped = refl
 
--- what `clamp_span` answers of the two sides
-pub fill-box : (v : Canvas) (f : ℕ → ℕ) (x y : ℤ) (w h : ℕ) (xs ys : List ℕ) → SFits w32 x → SFits w32 y
-    → xs ≡ side (toZ w32 (ofZ w32 x)) w (v .width) → ys ≡ side (toZ w32 (ofZ w32 y)) h (v .height) → inks f (fill v x y w h) ≡ box f xs ys
-fill-box v f x y w h xs ys sx sy ex ey =
-    let ex′ : xs ≡ side x w (v .width) = rw (toZ-ofZ w32 x sx) at ex in
-    let ey′ : ys ≡ side y h (v .height) = rw (toZ-ofZ w32 y sy) at ey in
-    fill-is v f x y w h ∙ ap₂ (λ (a b : List ℕ). box f a b) (sym ex′) (sym ey′)
+pub hits-each : (v : Canvas) (c : Clip) (g : ℕ → List Plot) (xs : List ℕ) → hits v c (each g xs) ≡ each (λ x. hits v c (g x)) xs
+unfolding each hits
+hits-each v c g [] = refl
+hits-each v c g (x ∷ xs) = hits-append v c (g x) (each g xs) ∙ ap (λ (l : List Hit). hits v c (g x) ++ l) (hits-each v c g xs)
+
+-- what a second test lets through
+each-cond : {A : Type 0} (t u : ℕ → Bool) (g h : ℕ → List A) (i n : ℕ) → ((k : ℕ) → i ≤ k → k < i + n → g k ≡ cond (u k) (h k) [])
+    → each g (select t i n) ≡ each h (select (λ k. both (t k) (u k)) i n)
+unfolding each select
+each-cond t u g h i zero e = refl
+each-cond t u g h i (suc n) e = go (t i) (u i) (e i (omega arith) (omega arith)) (each-cond t u g h (suc i) n (λ k p q. e k (omega arith) (omega arith)))
+  where
+    go : (a b : Bool) → g i ≡ cond b (h i) [] → each g (select t (suc i) n) ≡ each h (select (λ k. both (t k) (u k)) (suc i) n)
+        → each g (cond a (i ∷ select t (suc i) n) (select t (suc i) n))
+        ≡ each h (cond (both a b) (i ∷ select (λ k. both (t k) (u k)) (suc i) n) (select (λ k. both (t k) (u k)) (suc i) n))
+    go true true f r = ap₂ (λ (l m : List _). l ++ m) f r
+    go true false f r = ap₂ (λ (l m : List _). l ++ m) f r
+    go false b f r = r
+
+each-nil : {A : Type 0} (t : ℕ → Bool) (g : ℕ → List A) (i n : ℕ) → ((k : ℕ) → i ≤ k → k < i + n → g k ≡ []) → each g (select t i n) ≡ []
+unfolding each select
+each-nil t g i zero e = refl
+each-nil t g i (suc n) e = go (t i) (e i (omega arith) (omega arith)) (each-nil t g (suc i) n (λ k p q. e k (omega arith) (omega arith)))
+  where
+    go : (a : Bool) → g i ≡ [] → each g (select t (suc i) n) ≡ [] → each g (cond a (i ∷ select t (suc i) n) (select t (suc i) n)) ≡ []
+    go true f r = ap₂ (λ (l m : List _). l ++ m) f r
+    go false f r = r
+
+module _ (v : Canvas) (c : Clip) (f : ℕ → ℕ → ℕ → ℕ) where
+  spot-hit : (i j : ℕ) → i < v .width → j < v .height
+      → hits v c (plot (f i j) (pos i) (pos j) ∷ []) ≡ cond (both (within (c .x) (c .width) (pos i)) (within (c .y) (c .height) (pos j))) (mark f j i) []
+  unfolding hits mark inClip
+  spot-hit i j hi hj =
+      let t : Bool = both (within (c .x) (c .width) (pos i)) (within (c .y) (c .height) (pos j)) in
+      rw (is-inside v c (pos i) (pos j) (f i j) t (on-canvas v i j hi hj) refl) (go t)
+    where
+      go : (t : Bool) → keep (cond t landed clipped) (hit (f i j) i j) [] ≡ cond t (hit (f i j) i j ∷ []) []
+      go true = refl
+      go false = refl
+
+  spot-row : (t : ℕ → Bool) (j : ℕ) → j < v .height
+      → hits v c (each (λ i. plot (f i j) (pos i) (pos j) ∷ []) (select t 0 (v .width)))
+      ≡ cond (within (c .y) (c .height) (pos j)) (marks f (select (λ i. both (t i) (within (c .x) (c .width) (pos i))) 0 (v .width)) j) []
+  spot-row t j hj = hits-each v c (λ i. plot (f i j) (pos i) (pos j) ∷ []) (select t 0 (v .width)) ∙ go (within (c .y) (c .height) (pos j)) refl
+    where
+      both-true : (a : Bool) → both a true ≡ a
+      both-true true = refl
+      both-true false = refl
+
+      go : (r : Bool) → within (c .y) (c .height) (pos j) ≡ r
+          → each (λ i. hits v c (plot (f i j) (pos i) (pos j) ∷ [])) (select t 0 (v .width))
+          ≡ cond r (marks f (select (λ i. both (t i) (within (c .x) (c .width) (pos i))) 0 (v .width)) j) []
+      go true e =
+          each-cond t (λ i. within (c .x) (c .width) (pos i)) _ (mark f j) 0 (v .width)
+          (λ i l m. spot-hit i j (omega arith) hj ∙ rw (e, both-true (within (c .x) (c .width) (pos i))) refl)
+      go false e =
+          each-nil t _ 0 (v .width) (λ i l m. spot-hit i j (omega arith) hj ∙ rw (e, both-no (within (c .x) (c .width) (pos i))) refl)
+
+  pub spots-hits : (t u : ℕ → Bool)
+      → hits v c (spots f (select t 0 (v .width)) (select u 0 (v .height)))
+      ≡ field f (select (λ i. both (t i) (within (c .x) (c .width) (pos i))) 0 (v .width)) (select (λ j. both (u j) (within (c .y) (c .height) (pos j))) 0 (v .height))
+  unfolding spots
+  spots-hits t u =
+      hits-each v c (λ j. each (λ i. plot (f i j) (pos i) (pos j) ∷ []) (select t 0 (v .width))) (select u 0 (v .height))
+      ∙ each-cond u (λ j. within (c .y) (c .height) (pos j)) _ (marks f (select (λ i. both (t i) (within (c .x) (c .width) (pos i))) 0 (v .width))) 0 (v .height)
+      (λ j l m. spot-row t j (omega arith))
+
+-- ---- a fill
+
+fill-spots : (v : Canvas) (f : ℕ → ℕ) (x y : ℤ) (w h : ℕ) → inks f (fill v x y w h) ≡ spots (flat f) (side x w (v .width)) (side y h (v .height))
+unfolding fill spots inks
+fill-spots v f x y w h =
+    inks-each f (λ j. each (λ i. at (pos i) (pos j) ∷ []) (side x w (v .width))) (λ j. each (λ i. plot f (pos i) (pos j) ∷ []) (side x w (v .width))) (side y h (v .height))
+    (λ j. inks-each f (λ i. at (pos i) (pos j) ∷ []) (λ i. plot f (pos i) (pos j) ∷ []) (side x w (v .width)) (λ i. refl))
+
+-- how long a cut is
+pub span-le : {lo end : ℕ} {c : ℤ} {m n from to : ℕ} → Cut lo end c m n from to → n ≤ 32767 → to - from ≤ 32767
+span-le k l = omega (arith, k .held)
+
+-- the overlap that the code walks
+module _ (v : Canvas) (c : Clip) (f : ℕ → ℕ) (p q w h : ℕ) (s : SFits w32 (c .x)) (r : SFits w32 (c .y)) (x0 x1 y0 y1 : ℕ)
+    (xs : Cut (p - 2147483648) (p + w - 2147483648) (toZ w32 (ofZ w32 (c .x))) (c .width) (v .width) x0 x1)
+    (ys : Cut (q - 2147483648) (q + h - 2147483648) (toZ w32 (ofZ w32 (c .y))) (c .height) (v .height) y0 y1) where
+  pub fill-hits : hits v c (inks f (fill v (lowered p) (lowered q) w h)) ≡ field (flat f) (run x0 (x1 - x0)) (run y0 (y1 - y0))
+  fill-hits =
+      let ex : run x0 (x1 - x0) ≡ select (λ i. both (within (lowered p) w (pos i)) (within (c .x) (c .width) (pos i))) 0 (v .width)
+      = rw (toZ-ofZ w32 (c .x) s) at (xs .same (λ i. within (lowered p) w (pos i)) (span-holds p w _ _ refl refl)) in
+      let ey : run y0 (y1 - y0) ≡ select (λ j. both (within (lowered q) h (pos j)) (within (c .y) (c .height) (pos j))) 0 (v .height)
+      = rw (toZ-ofZ w32 (c .y) r) at (ys .same (λ j. within (lowered q) h (pos j)) (span-holds q h _ _ refl refl)) in
+      ap (hits v c) (fill-spots v f (lowered p) (lowered q) w h)
+      ∙ spots-hits v c (flat f) (λ i. within (lowered p) w (pos i)) (λ j. within (lowered q) h (pos j))
+      ∙ ap₂ (λ (l m : List ℕ). field (flat f) l m) (sym ex) (sym ey)
+
+-- hits of a field, painted and counted, are the plots' work
+module _ (v : Canvas) (c : Clip) (ps : List Plot) (f : ℕ → ℕ → ℕ → ℕ) (x0 x1 y0 y1 : ℕ) (e : hits v c ps ≡ field f (run x0 (x1 - x0)) (run y0 (y1 - y0))) (b : List ℕ) (t : Tally) where
+  field-count : length (hits v c ps) ≡ (y1 - y0) * (x1 - x0)
+  field-count = ap length e ∙ field-length f x0 (x1 - x0) y0 (y1 - y0)
+
+  pub field-fits : Ready v c ps (work b t) → Fits (plus t ((y1 - y0) * (x1 - x0)))
+  field-fits r = omega (arith, r .room, ap (λ (z : Work). z .tally .landed) (drawn-is v c ps (work b t)), field-count)
+
+  pub field-did : (b′ : List ℕ) (t′ : Tally) → b′ ≡ paint v (field f (run x0 (x1 - x0)) (run y0 (y1 - y0))) b → t′ ≡ plus t ((y1 - y0) * (x1 - x0)) → Did v c ps (work b t) (work b′ t′)
+  field-did b′ t′ p q = record {
+    same = ap₂ work (p ∙ ap (λ (hs : List Hit). paint v hs b) (sym e)) (q ∙ ap (plus t) (sym field-count)) ∙ sym (drawn-is v c ps (work b t));
+  }
 
 -- ---- how many points
 
-select-le : (t : ℕ → Bool) (i n : ℕ) → length (select t i n) ≤ n
+pub select-le : (t : ℕ → Bool) (i n : ℕ) → length (select t i n) ≤ n
 unfolding select
 select-le t i zero = omega arith
 select-le t i (suc n) = go (t i) (select-le t (suc i) n)
@@ -57,7 +162,7 @@ select-le t i (suc n) = go (t i) (select-le t (suc i) n)
     go true h = omega arith
     go false h = omega arith
 
-each-le : {A : Type 0} (g : ℕ → List A) (k : ℕ) (xs : List ℕ) → ((x : ℕ) → length (g x) ≤ k) → length (each g xs) ≤ length xs * k
+pub each-le : {A : Type 0} (g : ℕ → List A) (k : ℕ) (xs : List ℕ) → ((x : ℕ) → length (g x) ≤ k) → length (each g xs) ≤ length xs * k
 unfolding each
 each-le g k [] h = omega (arith, zero-mul k)
 each-le g k (x ∷ xs) h = omega (arith, length-append (g x) (each g xs), h x, each-le g k xs h, suc-mul (length xs) k)

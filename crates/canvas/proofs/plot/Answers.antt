@@ -1,12 +1,14 @@
 -- From the inner functions to the calls: what a sound canvas and a faulty one answer.
 use mathlib.Core.Path.{_≡_, refl, sym, ap, _∙_}
-use mathlib.Core.List.{List}
-use Prim.Native.Nat.{ℕ, _+_}
+use mathlib.Core.List.{List, [], _∷_}
+use Prim.Native.Nat.{ℕ, _+_, _<_}
 use native.Mathlib.Nat.{zero-add}
 use lib.ListN.{length}
 use Rattle.words.specs.declared.Color.{Color}
-use Rattle.words.specs.Ink.{plotInk, inked}
-use Rattle.words.proofs.Laws.{Channels, ink-is}
+use Rattle.words.specs.declared.Ink.{Ink}
+use Rattle.words.specs.Format.{range}
+use Rattle.words.specs.Ink.{plotWord, plotInk, inked}
+use Rattle.words.proofs.Laws.{Channels, ink-is, plot-keeps}
 use Rattle.canvas.specs.declared.Canvas.{Canvas}
 use Rattle.canvas.specs.declared.Clip.{Clip}
 use Rattle.canvas.specs.declared.Drawn.the-variants.{Refused, Done}
@@ -15,32 +17,62 @@ use Rattle.canvas.specs.declared.Tally.{Tally}
 use Rattle.canvas.specs.declared.faults.Verdict.{Verdict}
 use Rattle.canvas.specs.declared.faults.Verdict.the-variants.{Sound, Faulty}
 use Rattle.canvas.specs.Bytes.{form}
-use Rattle.canvas.specs.Faults.{verdict, Sized}
-use Rattle.canvas.specs.Plot.{Plot, Point, inks, hits, paint}
-use Rattle.canvas.specs.Call.{outcome, statusOf, countOf, leaves, drawing, ink}
-use Rattle.canvas.specs.Walk.{Work, work, drawn, Did}
+use Rattle.canvas.specs.Faults.{orElse, verdict, Sized}
+use Rattle.canvas.specs.Plot.{Plot, plot, Point, inks, tint, dip, hits, paint}
+use Rattle.canvas.specs.Call.{outcome, statusOf, countOf, leaves, drawing}
+use Rattle.canvas.specs.Walk.{Work, work, drawn, Keeps, Did}
 use Rattle.canvas.proofs.bytes.Cells.{Bytes}
 use Rattle.canvas.proofs.plot.Paints.{drawn-is, drawn-ink}
 use Rattle.canvas.proofs.faults.Verdicts.{sized}
 
+-- points of one colour
+pub dip-tint : (g : Color → ℕ → ℕ) (c : Color) (ps : List Point) → dip g (tint c ps) ≡ inks (g c) ps
+unfolding dip tint inks
+dip-tint g c [] = refl
+dip-tint g c (p ∷ ps) = ap (λ (l : List Plot). plot (g c) (p .x) (p .y) ∷ l) (dip-tint g c ps)
+
+-- the masks of a colour's plot keep to the word's range
+pub ink-keeps : (v : Canvas) (color : Color) (i : Ink) → Channels color → i ≡ plotInk (form v) (v .xor) color → Keeps v i
+ink-keeps v color i k e =
+    record { keeps = λ w l. rw (e, ink-is (form v) (v .xor) color w k l) (plot-keeps (form v) (v .xor) color w k l) }
+
+pub declines : (v : Canvas) (b : List ℕ) (a : Verdict) (c : Clip) (ps : List Plot) (r : Refusal) → a ≡ Faulty r → leaves (Refused r) b ≡ drawing a v c ps b
+unfolding statusOf countOf drawing
+declines v b a c ps r h = rw h refl
+
 module _ (v : Canvas) (b : List ℕ) (d : Verdict) (e : d ≡ verdict v (length b)) where
-  pub refuses : (c : Clip) (ps : List Plot) (r : Refusal) → d ≡ Faulty r → leaves (Refused r) b ≡ drawing v c ps b
-  unfolding statusOf countOf drawing
-  refuses c ps r h = rw (← e, h) refl
+  pub refuses : (own : Verdict) (c : Clip) (ps : List Plot) (r : Refusal) → d ≡ Faulty r → leaves (Refused r) b ≡ drawing (orElse (verdict v (length b)) own) v c ps b
+  unfolding orElse
+  refuses own c ps r h = declines v b (orElse (verdict v (length b)) own) c ps r (rw (← e, h) refl)
 
   pub accepts : d ≡ Sound → Sized v b
   accepts h = sized v b (sym e ∙ h)
 
-  -- the code draws with the masks of an ink; the rules speak of the colour
-  pub draws : (c : Clip) (color : Color) (ps : List Point) (i : _) (t₀ t : Tally) (b′ : List ℕ) → d ≡ Sound → Bytes b → Channels color
-      → i ≡ plotInk (form v) (v .xor) color → t₀ .landed ≡ 0 → Did v c (inks (inked i) ps) (work b t₀) (work b′ t) → leaves (Done t) b′ ≡ drawing v c (inks (ink v color) ps) b
-  unfolding statusOf countOf drawing
-  draws c color ps i t₀ t b′ h o k m z w =
-      let q : work b′ t ≡ work (paint v (hits v c (inks (ink v color) ps)) b) (record { landed = 0 + length (hits v c (inks (ink v color) ps)) })
-      = w .same ∙ ap (λ (x : _). drawn v c (inks (inked x) ps) (work b t₀)) m
-      ∙ drawn-ink v c (inked (plotInk (form v) (v .xor) color)) (ink v color) (λ u l. ink-is (form v) (v .xor) color u k l) ps (work b t₀) o
-      ∙ drawn-is v c (inks (ink v color) ps) (work b t₀)
-      ∙ ap (λ (n : ℕ). work (paint v (hits v c (inks (ink v color) ps)) b) (record { landed = n + length (hits v c (inks (ink v color) ps)) })) z in
-      ap (λ (x : Work). outcome 0 (x .tally .landed) (x .bytes)) q
-      ∙ ap (λ (n : ℕ). outcome 0 n (paint v (hits v c (inks (ink v color) ps)) b)) (zero-add (length (hits v c (inks (ink v color) ps))))
-      ∙ rw (← e, h) refl
+  pub sound : (own : Verdict) → d ≡ Sound → own ≡ Sound → orElse (verdict v (length b)) own ≡ Sound
+  unfolding orElse
+  sound own h o = rw (← e, h) o
+
+-- the plots were made, and the call is accepted
+pub finishes : (v : Canvas) (b : List ℕ) (c : Clip) (ps : List Plot) (a : Verdict) (t₀ t : Tally) (b′ : List ℕ) → a ≡ Sound → t₀ .landed ≡ 0 → Did v c ps (work b t₀) (work b′ t)
+    → leaves (Done t) b′ ≡ drawing a v c ps b
+unfolding statusOf countOf drawing
+finishes v b c ps a t₀ t b′ h z w =
+    let q : work b′ t ≡ work (paint v (hits v c ps) b) (record { landed = 0 + length (hits v c ps) })
+    = w .same ∙ drawn-is v c ps (work b t₀) ∙ ap (λ (n : ℕ). work (paint v (hits v c ps) b) (record { landed = n + length (hits v c ps) })) z in
+    ap (λ (x : Work). outcome 0 (x .tally .landed) (x .bytes)) q
+    ∙ ap (λ (n : ℕ). outcome 0 n (paint v (hits v c ps) b)) (zero-add (length (hits v c ps)))
+    ∙ rw h refl
+
+-- an ink that agrees on words
+pub did-ink : {v : Canvas} {c : Clip} (f g : ℕ → ℕ) (ps : List Point) {w w′ : Work} → Bytes (w .bytes) → ((u : ℕ) → u < range (form v) → f u ≡ g u)
+    → Did v c (inks f ps) w w′ → Did v c (inks g ps) w w′
+did-ink {v} {c} f g ps {w} o k d = record { same = d .same ∙ drawn-ink v c f g k ps w o }
+
+-- the code draws with the masks of an ink; the rules speak of the colour
+pub draws : (v : Canvas) (b : List ℕ) (c : Clip) (color : Color) (ps : List Point) (i : Ink) (a : Verdict) (t₀ t : Tally) (b′ : List ℕ) → a ≡ Sound → Bytes b → Channels color
+    → i ≡ plotInk (form v) (v .xor) color → t₀ .landed ≡ 0 → Did v c (inks (inked i) ps) (work b t₀) (work b′ t)
+    → leaves (Done t) b′ ≡ drawing a v c (dip (plotWord (form v) (v .xor)) (tint color ps)) b
+draws v b c color ps i a t₀ t b′ h o k m z w =
+    let f : ℕ → ℕ = plotWord (form v) (v .xor) color in
+    rw (dip-tint (plotWord (form v) (v .xor)) color ps)
+    (finishes v b c (inks f ps) a t₀ t b′ h z (did-ink (inked i) f ps o (λ u l. rw m (ink-is (form v) (v .xor) color u k l)) w))

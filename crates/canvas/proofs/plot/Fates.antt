@@ -34,11 +34,11 @@ pub on-canvas : (v : Canvas) (x y : ℕ) → x < v .width → y < v .height → 
 unfolding onCanvas
 on-canvas v x y hx hy = rw (side-yes (v .width) x hx, side-yes (v .height) y hy) refl
 
-off-across : (v : Canvas) (x y : ℤ) → within (pos 0) (v .width) x ≡ false → onCanvas v x y ≡ false
+pub off-across : (v : Canvas) (x y : ℤ) → within (pos 0) (v .width) x ≡ false → onCanvas v x y ≡ false
 unfolding onCanvas
 off-across v x y e = rw e refl
 
-off-down : (v : Canvas) (x y : ℤ) → within (pos 0) (v .height) y ≡ false → onCanvas v x y ≡ false
+pub off-down : (v : Canvas) (x y : ℤ) → within (pos 0) (v .height) y ≡ false → onCanvas v x y ≡ false
 unfolding onCanvas
 off-down v x y e = rw e (both-no (within (pos 0) (v .width) x))
 

@@ -6,8 +6,9 @@ use native.Mathlib.Decide.{ℕ-discrete}
 use lib.ListN.{length}
 use Rattle.words.specs.Format.{range}
 use Rattle.canvas.specs.declared.Canvas.{Canvas}
+use Rattle.canvas.specs.declared.Clip.{Clip}
 use Rattle.canvas.specs.Bytes.{form, extent, loadAt, storeAt, On}
-use Rattle.canvas.specs.Plot.{Hit, hit, touch, paint}
+use Rattle.canvas.specs.Plot.{Plot, Fate, landed, outside, clipped, fate, Hit, hit, hitOf, keep, hits, touch, paint}
 use Rattle.canvas.proofs.bytes.Cells.{Bytes}
 use Rattle.canvas.proofs.bytes.Pixels.{Other, length-store, load-lt, store-load, load-store, store-store, load-other, store-comm}
 use Rattle.canvas.proofs.plot.Paints.{touch-ink, touch-bytes}
@@ -40,6 +41,25 @@ pub record Family (v : Canvas) (Ok : Hit → Type 0) : Type 0 where
 pub data All (Ok : Hit → Type 0) : List Hit → Type 0 where
   none : All Ok []
   also : {h : Hit} {hs : List Hit} → Ok h → All Ok hs → All Ok (h ∷ hs)
+
+pub all-append : {Ok : Hit → Type 0} {hs ks : List Hit} → All Ok hs → All Ok ks → All Ok (hs ++ ks)
+all-append none b = b
+all-append (also o a) b = also o (all-append a b)
+
+-- what lands of some plots, by what holds of each that lands
+pub keep-all : {Ok : Hit → Type 0} (f : Fate) (h : Hit) (hs : List Hit) → (f ≡ landed → Ok h) → All Ok hs → All Ok (keep f h hs)
+keep-all landed h hs e a = also (e refl) a
+keep-all outside h hs e a = a
+keep-all clipped h hs e a = a
+
+pub data Plots (Q : Plot → Type 0) : List Plot → Type 0 where
+  no-more : Plots Q []
+  and : {p : Plot} {ps : List Plot} → Q p → Plots Q ps → Plots Q (p ∷ ps)
+
+pub hits-all : (v : Canvas) (c : Clip) (Q : Plot → Type 0) (Ok : Hit → Type 0) → ((p : Plot) → Q p → fate v c p ≡ landed → Ok (hitOf p)) → (ps : List Plot) → Plots Q ps → All Ok (hits v c ps)
+unfolding hits
+hits-all v c Q Ok e [] no-more = none
+hits-all v c Q Ok e (p ∷ ps) (and q qs) = keep-all (fate v c p) (hitOf p) (hits v c ps) (e p q) (hits-all v c Q Ok e ps qs)
 
 -- two hits on one pixel are one, of both inks
 touch-twice : (v : Canvas) (b : List ℕ) (x y : ℕ) (f g : ℕ → ℕ) → Screen v b → On v x y → ((w : ℕ) → w < range (form v) → f w < range (form v))
@@ -133,3 +153,17 @@ module _ (v : Canvas) (Ok : Hit → Type 0) (fam : Family v Ok) where
       ap (paint v (map doubled hs))
       (touch-ink v b (h .x) (h .y) (λ w. h .ink (h .ink w)) (λ w. w) (c .bytes) (λ w l. e h o w l) ∙ touch-id v b (h .x) (h .y) (c .bytes))
       ∙ paint-none hs b c os e
+
+-- ---- hits whose ink hangs on the pixel alone
+
+-- such inks, that keep to the word's range
+pub record By (v : Canvas) (f : ℕ → ℕ → ℕ → ℕ) (h : Hit) : Type 0 where
+  pub on : On v (h .x) (h .y)
+  pub inked : h .ink ≡ f (h .x) (h .y)
+
+pub by-pixel : (v : Canvas) (f : ℕ → ℕ → ℕ → ℕ) → ((x y w : ℕ) → w < range (form v) → f x y w < range (form v)) → Family v (By v f)
+by-pixel v f k = record {
+  on = λ h o. o .on;
+  keeps = λ h o w l. rw (o .inked) (k (h .x) (h .y) w l);
+  commutes = λ h g o q m n w l. rw (o .inked ∙ ap₂ f m n, q .inked) refl;
+}

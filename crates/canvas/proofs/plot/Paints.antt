@@ -49,18 +49,6 @@ pub touch-ink : (v : Canvas) (b : List ℕ) (x y : ℕ) (f g : ℕ → ℕ) → 
 unfolding touch
 touch-ink v b x y f g h e = ap (storeAt v b x y) (e (loadAt v b x y) (load-lt v b x y h))
 
-pub bit-le : (t : Bool) → cond t 1 0 ≤ 1
-bit-le true = omega arith
-bit-le false = omega arith
-
--- what `plot_in` leaves is one plot, landed or clipped; storing what was loaded changes nothing
-pub act-inside : (v : Canvas) (x y : ℕ) (i : Ink) (b b′ : List ℕ) (t : Tally) (n m : ℕ) (r : Bool) → Bytes b
-    → b′ ≡ touch v b (hit (λ k. cond r (inked i k) k) x y) → m ≡ n + cond r 1 0
-    → work b′ (plus t m) ≡ act v (plot (inked i) (pos x) (pos y)) (cond r landed clipped) (work b (plus t n))
-unfolding touch
-act-inside v x y i b b′ t n m true h e k = ap₂ work e (ap tally (omega arith))
-act-inside v x y i b b′ t n m false h e k = ap₂ work (e ∙ store-load v b x y h) (ap tally (omega arith))
-
 pub touch-bytes : (v : Canvas) (b : List ℕ) (h : Hit) → Bytes b → Bytes (touch v b h)
 unfolding touch
 touch-bytes v b h o = bytes-store v b (h .x) (h .y) _ o

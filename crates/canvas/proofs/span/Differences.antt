@@ -17,7 +17,7 @@ use Rattle.canvas.proofs.span.Spans.{same-leb}
 sub-neg : (m k : ℕ) → m < k → subℕ m k ≡ negsuc (k - suc m)
 sub-neg m k h = rw (lt-ltb m k h) refl
 
-sub-pos : (m k : ℕ) → k ≤ m → subℕ m k ≡ pos (m - k)
+pub sub-pos : (m k : ℕ) → k ≤ m → subℕ m k ≡ pos (m - k)
 sub-pos m k h = rw (le-ltb m k h) refl
 
 data Sign (m k : ℕ) : Type 0 where

@@ -23,7 +23,7 @@ unfolding lifted
 lifted-lt (pos n) h = omega arith
 lifted-lt (negsuc n) h = omega arith
 
-lower-lift : (x : ℤ) → SFits w32 x → lowered (lifted x) ≡ x
+pub lower-lift : (x : ℤ) → SFits w32 x → lowered (lifted x) ≡ x
 unfolding lowered lifted
 lower-lift (pos m) s = rw (le-ltb (2147483648 + m) 2147483648 (omega arith)) (ap pos (omega arith))
 lower-lift (negsuc m) s = rw (lt-ltb (2147483647 - m) 2147483648 (omega arith)) (ap negsuc (omega arith))

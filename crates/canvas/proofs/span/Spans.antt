@@ -2,27 +2,22 @@
 use mathlib.Core.Path.{_≡_, refl, sym, ap, ap₂, _∙_}
 use mathlib.Core.Bool.{Bool, true, false, cond}
 use mathlib.Core.List.{List, [], _∷_, _++_, append-nil}
-use Prim.Native.Nat.{ℕ, zero, suc, _+_, _-_, _%_, _≤_, _<_, min}
+use Prim.Native.Nat.{ℕ, zero, suc, _+_, _-_, _≤_, _<_, min, max}
 use native.Mathlib.Omega.{arith}
 use native.Mathlib.Nat.{zero-add, add-zero, suc-add, min-le-left, min-le-right}
 use native.Mathlib.Decide.{decLt, decLe}
 use borrow.Author.Tests.{lt-ltb, le-ltb, le-leb, lt-leb}
 use lib.Dec.{ltb, leb}
-use lib.IntN.{ℤ, pos, negsuc, subℕ}
-use lib.Signed.{ltZ}
+use lib.IntN.{ℤ, pos, subℕ, _+ℤ_}
+use lib.Signed.{leZ, ltZ}
 use mir.Syntax.{w32}
 use mir.Val.{SFits, toZ, ofZ}
 use mir.ValLaws.{toZ-ofZ}
-use Rattle.canvas.specs.declared.Canvas.{Canvas}
 use Rattle.canvas.specs.declared.Clip.{Clip}
 use Rattle.canvas.specs.Clip.{both, within, inClip}
 use Rattle.canvas.specs.Boxes.{select}
-use Rattle.canvas.specs.Walk.{lifted, run, Clamped, Inner}
-use Rattle.canvas.proofs.span.Lifts.{lift-is, lifted-lt}
-
-both-yes : (t : Bool) → both t true ≡ t
-both-yes true = refl
-both-yes false = refl
+use Rattle.canvas.specs.Walk.{lifted, lowered, run, Holds, Cut}
+use Rattle.canvas.proofs.span.Lifts.{lift-is, lower-lift, lowers, lowered-neg, lowered-pos}
 
 pub both-no : (t : Bool) → both t false ≡ false
 both-no true = refl
@@ -38,20 +33,27 @@ same-leb a b c d f g = go (decLe a b) (decLe c d)
     go (no h) (no k) = lt-leb a b (omega arith) ∙ sym (lt-leb c d (omega arith))
 
 -- the test of a span at a number that is not negative, among lifted numbers
+pub within-lowered : (u n p : ℕ) → within (lowered u) n (pos p) ≡ both (leb u (2147483648 + p)) (ltb (2147483648 + p) (u + n))
+unfolding within
+within-lowered u n p = go (decLt u 2147483648)
+  where
+    past : Dec (n < suc (2147483647 - u)) → u < 2147483648 → ltZ (pos p) (subℕ n (suc (2147483647 - u))) ≡ ltb (2147483648 + p) (u + n)
+    past (yes k) h = rw (lt-ltb n (suc (2147483647 - u)) k) (sym (le-ltb (2147483648 + p) (u + n) (omega arith)))
+    past (no k) h =
+        rw (le-ltb n (suc (2147483647 - u)) (omega arith))
+        (same-leb (suc p) (n - suc (2147483647 - u)) (suc (2147483648 + p)) (u + n) (omega arith) (omega arith))
+
+    go : Dec (u < 2147483648) → both (leZ (lowered u) (pos p)) (ltZ (pos p) (lowered u +ℤ pos n)) ≡ both (leb u (2147483648 + p)) (ltb (2147483648 + p) (u + n))
+    go (yes h) = rw (lowered-neg u h, le-leb u (2147483648 + p) (omega arith)) (past (decLt n (suc (2147483647 - u))) h)
+    go (no h) =
+        let l : 2147483648 ≤ u = omega arith in
+        rw (lowered-pos u l)
+        (ap₂ both (same-leb (u - 2147483648) p u (2147483648 + p) (omega arith) (omega arith))
+        (same-leb (suc p) (u - 2147483648 + n) (suc (2147483648 + p)) (u + n) (omega arith) (omega arith)))
+
 within-lifted : (a : ℤ) (n p : ℕ) → SFits w32 a
     → within a n (pos p) ≡ both (leb (lifted a) (2147483648 + p)) (ltb (2147483648 + p) (lifted a + n))
-unfolding within lifted
-within-lifted (pos m) n p h =
-    ap₂ both (same-leb m p (2147483648 + m) (2147483648 + p) (omega arith) (omega arith))
-    (same-leb (suc p) (m + n) (suc (2147483648 + p)) (2147483648 + m + n) (omega arith) (omega arith))
-within-lifted (negsuc m) n p h =
-    rw (le-leb (2147483647 - m) (2147483648 + p) (omega arith)) (go (decLt n (suc m)))
-  where
-    go : Dec (n < suc m) → ltZ (pos p) (subℕ n (suc m)) ≡ ltb (2147483648 + p) (2147483647 - m + n)
-    go (yes k) = rw (lt-ltb n (suc m) k) (sym (le-ltb (2147483648 + p) (2147483647 - m + n) (omega arith)))
-    go (no k) =
-        rw (le-ltb n (suc m) (omega arith))
-        (same-leb (suc p) (n - suc m) (suc (2147483648 + p)) (2147483647 - m + n) (omega arith) (omega arith))
+within-lifted a n p h = ap (λ (z : ℤ). within z n (pos p)) (sym (lower-lift a h)) ∙ within-lowered (lifted a) n p
 
 -- what `in_span` answers
 module _ (a : ℤ) (n p u : ℕ) (s : SFits w32 a) (e : u ≡ lifted (toZ w32 (ofZ w32 a))) where
@@ -80,7 +82,7 @@ run-zero : (i : ℕ) → run i 0 ≡ []
 unfolding run
 run-zero i = refl
 
-select-none : (t : ℕ → Bool) (i m : ℕ) → ((k : ℕ) → i ≤ k → k < i + m → t k ≡ false) → select t i m ≡ []
+pub select-none : (t : ℕ → Bool) (i m : ℕ) → ((k : ℕ) → i ≤ k → k < i + m → t k ≡ false) → select t i m ≡ []
 unfolding select
 select-none t i zero h = refl
 select-none t i (suc m) h = rw (h i (omega arith) (omega arith)) (select-none t (suc i) m (λ k p q. h k (omega arith) (omega arith)))
@@ -101,17 +103,11 @@ select-cut t i (suc m) k =
     let e : i + suc m ≡ suc i + m = omega arith in
     rw (suc-add m k, select-cut t (suc i) m k, e) (cond-append (t i) i (select t (suc i) m) (select t (suc i + m) k))
 
--- a test that holds from lo up to end, and nowhere else
-pub record Holds (t : ℕ → Bool) (lo end : ℕ) : Type 0 where
-  pub below : (k : ℕ) → k < lo → t k ≡ false
-  pub inside : (k : ℕ) → lo ≤ k → k < end → t k ≡ true
-  pub past : (k : ℕ) → end ≤ k → t k ≡ false
-
 select-span : (t : ℕ → Bool) (lo end hi n : ℕ) → Holds t lo end → lo ≤ hi → hi ≤ n → hi ≤ end → ((k : ℕ) → hi ≤ k → k < n → end ≤ k) → select t 0 n ≡ run lo (hi - lo)
 select-span t lo end hi n h l l′ m p =
     let e : n ≡ lo + ((hi - lo) + (n - hi)) = omega arith in
     ap (select t 0) e ∙ select-cut t 0 lo ((hi - lo) + (n - hi))
-    ∙ ap₂ (λ (x y : List ℕ). x ++ y) (select-none t 0 lo (λ k a b. h .below k (omega arith)))
+    ∙ ap₂ (λ (x y : List ℕ). x ++ y) (select-none t 0 lo (λ k a b. h .before k (omega arith)))
     (select-cut t (0 + lo) (hi - lo) (n - hi)
     ∙ ap₂ (λ (x y : List ℕ). x ++ y)
     (select-all t (0 + lo) (hi - lo) (λ k a b. h .inside k (omega arith) (omega arith)) ∙ ap (λ (x : ℕ). run x (hi - lo)) (zero-add lo))
@@ -131,7 +127,7 @@ run-is t lo end n to h e = go (decLe lo to)
     l3 k p q = omega arith
 
     out : (k : ℕ) → to < lo → Dec (k < lo) → k < n → t k ≡ false
-    out k l (yes p) q = h .below k p
+    out k l (yes p) q = h .before k p
     out k l (no p) q = h .past k (l3 k (omega arith) q)
 
     go : Dec (lo ≤ to) → run lo (to - lo) ≡ select t 0 n
@@ -140,79 +136,50 @@ run-is t lo end n to h e = go (decLe lo to)
         let z : to - lo ≡ 0 = omega arith in
         ap (run lo) z ∙ run-zero lo ∙ sym (select-none t 0 n (λ k p q. out k (omega arith) (decLt k lo) (omega arith)))
 
--- one span, by its lifted ends
-pub span-holds : (a : ℤ) (len u from end : ℕ) → SFits w32 a → u ≡ lifted (toZ w32 (ofZ w32 a)) → from ≡ u - 2147483648 → end ≡ u + len - 2147483648
-    → Holds (λ k. within a len (pos k)) from end
-span-holds a len u from end s eu ef ee = record { below = below; inside = inside; past = past }
+-- ---- the ends of what two tests share, and of one span
+
+pub holds-both : {t u : ℕ → Bool} {lo end lo′ end′ : ℕ} → Holds t lo end → Holds u lo′ end′ → Holds (λ k. both (t k) (u k)) (max lo lo′) (min end end′)
+holds-both {t} {u} {lo} {end} {lo′} {end′} h g = record {
+  before = λ k l. no-start k l (decLt k lo);
+  inside = λ k l m. rw (h .inside k (omega arith) (omega arith), g .inside k (omega arith) (omega arith)) refl;
+  past = λ k l. no-end k l (decLe end k);
+}
   where
-    e : u ≡ lifted a
-    e = lift-is a u s eu
+    no-start : (k : ℕ) → k < max lo lo′ → Dec (k < lo) → both (t k) (u k) ≡ false
+    no-start k l (yes m) = rw (h .before k m) refl
+    no-start k l (no m) = rw (g .before k (omega arith)) (both-no (t k))
 
-    below : (k : ℕ) → k < from → within a len (pos k) ≡ false
-    below k h = within-lifted a len k s ∙ rw (← e, lt-leb u (2147483648 + k) (omega arith)) refl
+    no-end : (k : ℕ) → min end end′ ≤ k → Dec (end ≤ k) → both (t k) (u k) ≡ false
+    no-end k l (yes m) = rw (h .past k m) refl
+    no-end k l (no m) = rw (g .past k (omega arith)) (both-no (t k))
 
-    inside : (k : ℕ) → from ≤ k → k < end → within a len (pos k) ≡ true
-    inside k h l = within-lifted a len k s ∙ rw (← e, le-leb u (2147483648 + k) (omega arith), lt-ltb (2147483648 + k) (u + len) (omega arith)) refl
-
-    past : (k : ℕ) → end ≤ k → within a len (pos k) ≡ false
-    past k h = within-lifted a len k s ∙ rw (← e, le-ltb (2147483648 + k) (u + len) (omega arith)) (both-no (leb u (2147483648 + k)))
-
--- the ends of the run tell which of the first n pass
-among : (t : ℕ → Bool) (lo end n to : ℕ) → Holds t lo end → to ≡ min end n → (x : ℕ) → x < n → both (leb lo x) (ltb x to) ≡ t x
-among t lo end n to h e x l = go (decLt x lo) (decLt x end)
+pub span-holds : (u len from end : ℕ) → from ≡ u - 2147483648 → end ≡ u + len - 2147483648 → Holds (λ k. within (lowered u) len (pos k)) from end
+span-holds u len from end ef ee = record { before = before; inside = inside; past = past }
   where
-    go : Dec (x < lo) → Dec (x < end) → both (leb lo x) (ltb x to) ≡ t x
-    go (yes p) q = rw (lt-leb lo x p, h .below x p) refl
-    go (no p) (yes q) = rw (le-leb lo x (omega arith), lt-ltb x to (omega arith), h .inside x (omega arith) q) refl
-    go (no p) (no q) = rw (le-ltb x to (omega arith), h .past x (omega arith)) (both-no (leb lo x))
+    before : (k : ℕ) → k < from → within (lowered u) len (pos k) ≡ false
+    before k h = within-lowered u len k ∙ rw (lt-leb u (2147483648 + k) (omega arith)) refl
 
--- what `clamp_span` answers
-pub clamped : (a : ℤ) (len n u from end to : ℕ) → SFits w32 a → u ≡ lifted (toZ w32 (ofZ w32 a)) → from ≡ u - 2147483648 → end ≡ u + len - 2147483648
-    → to ≡ min end n → Clamped a len n from to
-clamped a len n u from end to s eu ef ee et =
-    let h : Holds (λ k. within a len (pos k)) from end = span-holds a len u from end s eu ef ee in
-    record { low = omega (arith, lift-is a u s eu, lifted-lt a s); held = rw et (min-le-right end n); same = run-is (λ k. within a len (pos k)) from end n to h et; among = among (λ k. within a len (pos k)) from end n to h et }
+    inside : (k : ℕ) → from ≤ k → k < end → within (lowered u) len (pos k) ≡ true
+    inside k h l = within-lowered u len k ∙ rw (le-leb u (2147483648 + k) (omega arith), lt-ltb (2147483648 + k) (u + len) (omega arith)) refl
 
--- what `among` answers: r is the difference, which wraps
-pub among-is : (from n x r : ℕ) → from ≤ 2147483648 → n ≤ 32767 → x < 4294967296 → r < 4294967296 → (r + from) % 4294967296 ≡ x
-    → ltb r n ≡ both (leb from x) (ltb x (from + n))
-among-is from n x r hf hn hx hr e = go (decLe from x)
-  where
-    go : Dec (from ≤ x) → ltb r n ≡ both (leb from x) (ltb x (from + n))
-    go (yes h) = rw (le-leb from x h) (same-leb (suc r) n (suc x) (from + n) (omega arith) (omega arith))
-    go (no h) = rw (lt-leb from x (omega arith)) (le-ltb r n (omega arith))
+    past : (k : ℕ) → end ≤ k → within (lowered u) len (pos k) ≡ false
+    past k h = within-lowered u len k ∙ rw (le-ltb (2147483648 + k) (u + len) (omega arith)) (both-no (leb u (2147483648 + k)))
 
--- the columns of a row inside the clip: none, or those of the clip's span
-module _ (v : Canvas) (c : Clip) (y : ℕ) (s : SFits w32 (c .y)) (r : Bool) (e : r ≡ within (toZ w32 (ofZ w32 (c .y))) (c .height) (pos y)) where
-  down : r ≡ within (c .y) (c .height) (pos y)
-  down = rw (toZ-ofZ w32 (c .y) s) at e
+-- what `cut` answers
+module _ (lo end : ℕ) (c : ℤ) (m n u : ℕ) (s : SFits w32 c) (eu : u ≡ lifted (toZ w32 (ofZ w32 c))) (cf ct : ℕ) (ef : cf ≡ u - 2147483648) (et : ct ≡ u + m - 2147483648) where
+  clip-holds : Holds (λ k. within c m (pos k)) cf ct
+  clip-holds = rw (lowers c u s eu) at (span-holds u m cf ct ef et)
 
-  none-at : (x : ℕ) → both (leb 0 x) (ltb x (0 + 0)) ≡ false
-  none-at x = rw (le-ltb x (0 + 0) (omega arith)) (both-no (leb 0 x))
+  module _ (from to : ℕ) (gf : from ≡ max lo cf) (gt : to ≡ min (min end ct) n) where
+    same-run : (t : ℕ → Bool) → Holds t lo end → run from (to - from) ≡ select (λ i. both (t i) (within c m (pos i))) 0 n
+    same-run t h =
+        let g : Holds (λ i. both (t i) (within c m (pos i))) from (min end ct) = rw (← gf) at (holds-both h clip-holds) in
+        run-is (λ i. both (t i) (within c m (pos i))) from (min end ct) n to g gt
 
-  pub inner-none : r ≡ false → Inner v c y 0 0
-  unfolding inClip
-  inner-none h = record {
-    low = omega arith;
-    few = omega arith;
-    inner = λ x l. none-at x ∙ sym (rw (← down, h) (both-no (within (c .x) (c .width) (pos x))));
-  }
+    pub cut-is : from ≤ to → Cut lo end c m n from to
+    cut-is l = record { ordered = l; held = rw gt (min-le-right (min end ct) n); same = same-run }
 
-  module _ (from to : ℕ) (t : SFits w32 (c .x)) (h : r ≡ true) (k : Clamped (toZ w32 (ofZ w32 (c .x))) (c .width) (v .width) from to) where
-    clip-among : (x : ℕ) → x < v .width → both (leb from x) (ltb x to) ≡ inClip c (pos x) (pos y)
-    unfolding inClip
-    clip-among x l =
-        let k′ : Clamped (c .x) (c .width) (v .width) from to = rw (toZ-ofZ w32 (c .x) t) at k in
-        k′ .among x l ∙ sym (rw (← down, h) (both-yes (within (c .x) (c .width) (pos x))))
-
-    apart : (x : ℕ) → to < from → Dec (x < to) → both (leb from x) (ltb x to) ≡ false
-    apart x l (yes m) = rw (lt-leb from x (omega arith)) refl
-    apart x l (no m) = rw (le-ltb x to (omega arith)) (both-no (leb from x))
-
-    pub inner-empty : to < from → Inner v c y 0 0
-    inner-empty m = record { low = omega arith; few = omega arith; inner = λ x l. none-at x ∙ sym (apart x m (decLt x to)) ∙ clip-among x l }
-
-    pub inner-some : v .width ≤ 32767 → from ≤ to → Inner v c y from (to - from)
-    inner-some w m =
-        let z : from + (to - from) ≡ to = omega arith in
-        record { low = k .low; few = omega (arith, k .held); inner = λ x l. ap (λ (n : ℕ). both (leb from x) (ltb x n)) z ∙ clip-among x l }
+    pub cut-none : to < from → Cut lo end c m n 0 0
+    cut-none l =
+        let z : to - from ≡ 0 = omega arith in
+        record { ordered = omega arith; held = omega arith; same = λ t h. run-zero 0 ∙ sym (run-zero from) ∙ ap (run from) (sym z) ∙ same-run t h }

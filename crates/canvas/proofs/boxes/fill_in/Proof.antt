@@ -1,26 +1,60 @@
--- The box's two sides, held to the canvas, give the runs of the fill.
+-- What lands is the field of the two overlaps, and their area is the count.
+use native.Mathlib.Omega.{arith}
 use Rattle.words.specs.Ink.{inked}
-use Rattle.canvas.proofs.boxes.Boxes.{fill-box}
+use Rattle.canvas.specs.Plot.{inks}
+use Rattle.canvas.specs.Boxes.{fill}
+use Rattle.canvas.specs.Walk.{lowered, flat}
+use Rattle.canvas.proofs.bytes.Places.{area-le}
+use Rattle.canvas.proofs.boxes.Boxes.{fill-hits, span-le, field-fits, field-did}
 use borrow.Author.Needs.{needs}
 use Rattle.canvas.proofs.boxes.fill_in.Statement.{statement}
 use Rattle.canvas.proofs.boxes.fill_in.Tie as tie
 
-clamp-span-requires : tie.Need-clamp-span-requires
-clamp-span-requires c κs = search needs
+reach-requires : tie.Need-reach-requires
+reach-requires c κs = search needs
 
-clamp-span-requires-2 : tie.Need-clamp-span-requires-2
-clamp-span-requires-2 c κs = search needs
+cut-requires : tie.Need-cut-requires
+cut-requires c κs = search needs
 
-box-part-requires : tie.Need-box-part-requires
-box-part-requires c κs = (rw (fill-box (c .before .before .before .before .args .canvas) (inked (c .before .before .before .before .args .ink)) (c .before .before .before .before .args .x) (c .before .before .before .before .args .y) (c .before .before .before .before .args .w) (c .before .before .before .before .args .h) _ _ (c .before .before .before .before .fits .x) (c .before .before .before .before .fits .y) (c .before .before .clamp-span .ensures .same) (c .before .clamp-span2 .ensures .same)) at (c .before .before .before .before .pre), (c .before .before .clamp-span .ensures .held, c .before .clamp-span2 .ensures .held))
+reach-requires-2 : tie.Need-reach-requires-2
+reach-requires-2 c κs = search needs
+
+cut-requires-2 : tie.Need-cut-requires-2
+cut-requires-2 c κs = search needs
+
+sub-n : tie.Need-sub-n
+sub-n c = search needs
+
+sub-n-2 : tie.Need-sub-n-2
+sub-n-2 c = search needs
+
+mul-n : tie.Need-mul-n
+mul-n c = record { fits = omega (arith, area-le _ _ (span-le (c .before .before .before .before .before .cut .ensures) (c .before .before .before .before .before .before .before .before .before .pre .0 .sized .wide)) (span-le (c .before .before .cut2 .ensures) (c .before .before .before .before .before .before .before .before .before .pre .0 .sized .high))) }
+
+ink-box-requires : tie.Need-ink-box-requires
+ink-box-requires c κs = search needs
+
+landed-more-requires : tie.Need-landed-more-requires
+landed-more-requires c κs = field-fits (c .before .before .before .before .before .before .before .before .before .before .before .before .before .args .canvas) (c .before .before .before .before .before .before .before .before .before .before .before .before .before .args .clip) (inks (inked (c .before .before .before .before .before .before .before .before .before .before .before .before .before .args .ink)) (fill (c .before .before .before .before .before .before .before .before .before .before .before .before .before .args .canvas) (lowered (c .before .before .before .before .before .before .before .before .before .before .before .before .before .args .p)) (lowered (c .before .before .before .before .before .before .before .before .before .before .before .before .before .args .q)) (c .before .before .before .before .before .before .before .before .before .before .before .before .before .args .w) (c .before .before .before .before .before .before .before .before .before .before .before .before .before .args .h))) (flat (inked (c .before .before .before .before .before .before .before .before .before .before .before .before .before .args .ink))) _ _ _ _ (fill-hits (c .before .before .before .before .before .before .before .before .before .before .before .before .before .args .canvas) (c .before .before .before .before .before .before .before .before .before .before .before .before .before .args .clip) (inked (c .before .before .before .before .before .before .before .before .before .before .before .before .before .args .ink)) (c .before .before .before .before .before .before .before .before .before .before .before .before .before .args .p) (c .before .before .before .before .before .before .before .before .before .before .before .before .before .args .q) (c .before .before .before .before .before .before .before .before .before .before .before .before .before .args .w) (c .before .before .before .before .before .before .before .before .before .before .before .before .before .args .h) (record { sfits = c .before .before .before .before .before .before .before .before .before .before .struct-told .given .0 .1 }) (record { sfits = c .before .before .before .before .before .before .before .before .before .before .struct-told .given .1 .0 .1 }) _ _ _ _ (rw (c .before .before .before .before .before .before .before .before .before .before .before .reach .ensures .0, c .before .before .before .before .before .before .before .before .before .before .before .reach .ensures .1) at (c .before .before .before .before .before .before .before .before .before .cut .ensures)) (rw (c .before .before .before .before .before .before .before .before .reach2 .ensures .0, c .before .before .before .before .before .before .before .before .reach2 .ensures .1) at (c .before .before .before .before .before .before .cut2 .ensures))) (c .before .before .before .before .before .before .before .before .before .before .before .before .before .args .b .now) (c .before .before .before .before .before .before .before .before .before .before .before .before .before .args .t) (c .before .before .before .before .before .before .before .before .before .before .before .before .before .pre .0)
 
 same-length : tie.Need-same-length
 same-length c = search needs
 
 returns : tie.Need-returns
-returns c = rw (fill-box (c .before .before .before .before .before .before .before .args .canvas) (inked (c .before .before .before .before .before .before .before .args .ink)) (c .before .before .before .before .before .before .before .args .x) (c .before .before .before .before .before .before .before .args .y) (c .before .before .before .before .before .before .before .args .w) (c .before .before .before .before .before .before .before .args .h) _ _ (c .before .before .before .before .before .before .before .fits .x) (c .before .before .before .before .before .before .before .fits .y) (c .before .before .before .before .before .clamp-span .ensures .same) (c .before .before .before .before .clamp-span2 .ensures .same)) (c .before .before .box-part .ensures)
+returns c = field-did (c .before .before .before .before .before .before .before .before .before .before .before .before .before .before .args .canvas) (c .before .before .before .before .before .before .before .before .before .before .before .before .before .before .args .clip) (inks (inked (c .before .before .before .before .before .before .before .before .before .before .before .before .before .before .args .ink)) (fill (c .before .before .before .before .before .before .before .before .before .before .before .before .before .before .args .canvas) (lowered (c .before .before .before .before .before .before .before .before .before .before .before .before .before .before .args .p)) (lowered (c .before .before .before .before .before .before .before .before .before .before .before .before .before .before .args .q)) (c .before .before .before .before .before .before .before .before .before .before .before .before .before .before .args .w) (c .before .before .before .before .before .before .before .before .before .before .before .before .before .before .args .h))) (flat (inked (c .before .before .before .before .before .before .before .before .before .before .before .before .before .before .args .ink))) _ _ _ _ (fill-hits (c .before .before .before .before .before .before .before .before .before .before .before .before .before .before .args .canvas) (c .before .before .before .before .before .before .before .before .before .before .before .before .before .before .args .clip) (inked (c .before .before .before .before .before .before .before .before .before .before .before .before .before .before .args .ink)) (c .before .before .before .before .before .before .before .before .before .before .before .before .before .before .args .p) (c .before .before .before .before .before .before .before .before .before .before .before .before .before .before .args .q) (c .before .before .before .before .before .before .before .before .before .before .before .before .before .before .args .w) (c .before .before .before .before .before .before .before .before .before .before .before .before .before .before .args .h) (record { sfits = c .before .before .before .before .before .before .before .before .before .before .before .struct-told .given .0 .1 }) (record { sfits = c .before .before .before .before .before .before .before .before .before .before .before .struct-told .given .1 .0 .1 }) _ _ _ _ (rw (c .before .before .before .before .before .before .before .before .before .before .before .before .reach .ensures .0, c .before .before .before .before .before .before .before .before .before .before .before .before .reach .ensures .1) at (c .before .before .before .before .before .before .before .before .before .before .cut .ensures)) (rw (c .before .before .before .before .before .before .before .before .before .reach2 .ensures .0, c .before .before .before .before .before .before .before .before .before .reach2 .ensures .1) at (c .before .before .before .before .before .before .before .cut2 .ensures))) (c .before .before .before .before .before .before .before .before .before .before .before .before .before .before .args .b .now) (c .before .before .before .before .before .before .before .before .before .before .before .before .before .before .args .t) _ _ (c .before .before .before .ink-box .ensures) (c .landed-more .ensures)
 
 pub fill-in-spec : {M : Type 1} → statement M
 fill-in-spec =
     tie.close
-    (tie.spec clamp-span-requires clamp-span-requires-2 box-part-requires same-length returns)
+    (tie.spec
+    reach-requires
+    cut-requires
+    reach-requires-2
+    cut-requires-2
+    sub-n
+    sub-n-2
+    mul-n
+    ink-box-requires
+    landed-more-requires
+    same-length
+    returns)

@@ -2,11 +2,14 @@
 use native.Mathlib.Omega.{arith}
 use mathlib.Core.Path.{refl}
 use mir.Syntax.{w32}
-use mir.ValLaws.{toZ-ofZ}
+use mir.Val.{toZ, ofZ}
+use mir.ValLaws.{toZ-fits, ofZ-fits}
+use Rattle.canvas.specs.declared.faults.Verdict.the-variants.{Sound}
 use Rattle.canvas.specs.Boxes.{fill}
-use Rattle.canvas.specs.Call.{plots}
+use Rattle.canvas.specs.Call.{dots}
+use Rattle.canvas.proofs.span.Lifts.{lifted-lt, lowers}
 use Rattle.canvas.proofs.plot.Draws.{ready-few}
-use Rattle.canvas.proofs.plot.Answers.{refuses, accepts, draws}
+use Rattle.canvas.proofs.plot.Answers.{refuses, accepts, sound, draws}
 use Rattle.canvas.proofs.boxes.Boxes.{fill-le, inks-few}
 use borrow.Author.Needs.{needs}
 use Rattle.canvas.proofs.boxes.fill_rect.Statement.{statement}
@@ -19,7 +22,7 @@ enum-known-s : tie.Need-enum-known-s
 enum-known-s c = search needs
 
 returns : tie.Need-returns
-returns c = refuses (c .before .before .before .before .before .args .canvas) (c .before .before .before .before .before .args .bytes .now) _ (c .before .before .before .judge .ensures) _ _ _ (c .before .s .given .1)
+returns c = refuses (c .before .before .before .before .before .args .canvas) (c .before .before .before .before .before .args .bytes .now) _ (c .before .before .before .judge .ensures) Sound _ _ _ (c .before .s .given .1)
 
 enum-told : tie.Need-enum-told
 enum-told c = search needs
@@ -27,15 +30,21 @@ enum-told c = search needs
 plot-ink-requires : tie.Need-plot-ink-requires
 plot-ink-requires c κs = search needs
 
+lift-requires : tie.Need-lift-requires
+lift-requires c κs = search needs
+
+lift-requires-2 : tie.Need-lift-requires-2
+lift-requires-2 c κs = search needs
+
 fill-in-requires : tie.Need-fill-in-requires
-fill-in-requires c κs = let s = (accepts (c .before .before .before .before .before .before .args .canvas) (c .before .before .before .before .before .before .args .bytes .now) _ (c .before .before .before .before .judge .ensures) (c .before .before .enum-told .given .1)) in ready-few s refl (inks-few _ _ (fill-le (c .before .before .before .before .before .before .args .canvas) _ _ (c .before .before .before .before .before .before .args .w) (c .before .before .before .before .before .before .args .h) (s .wide) (s .high)))
+fill-in-requires c κs = let s = accepts (c .before .before .before .before .before .before .before .before .args .canvas) (c .before .before .before .before .before .before .before .before .args .bytes .now) _ (c .before .before .before .before .before .before .judge .ensures) (c .before .before .before .before .enum-told .given .1) in (ready-few s refl (inks-few _ _ (fill-le (c .before .before .before .before .before .before .before .before .args .canvas) _ _ _ _ (s .wide) (s .high))), (omega (arith, c .before .before .lift .ensures, lifted-lt (toZ w32 (ofZ w32 (c .before .before .before .before .before .before .before .before .args .x))) (toZ-fits w32 (ofZ w32 (c .before .before .before .before .before .before .before .before .args .x)) (ofZ-fits w32 (c .before .before .before .before .before .before .before .before .args .x) (c .before .before .before .before .before .before .before .before .fits .x)))), omega (arith, c .before .lift2 .ensures, lifted-lt (toZ w32 (ofZ w32 (c .before .before .before .before .before .before .before .before .args .y))) (toZ-fits w32 (ofZ w32 (c .before .before .before .before .before .before .before .before .args .y)) (ofZ-fits w32 (c .before .before .before .before .before .before .before .before .args .y) (c .before .before .before .before .before .before .before .before .fits .y))))))
 
 same-length : tie.Need-same-length
 same-length c = search needs
 
 returns-2 : tie.Need-returns-2
-unfolding plots
-returns-2 c = draws (c .before .before .before .before .before .before .before .before .before .args .canvas) (c .before .before .before .before .before .before .before .before .before .args .bytes .now) _ (c .before .before .before .before .before .before .before .judge .ensures) (c .before .before .before .before .before .before .before .before .before .args .clip) (c .before .before .before .before .before .before .before .before .before .args .color) (fill (c .before .before .before .before .before .before .before .before .before .args .canvas) (c .before .before .before .before .before .before .before .before .before .args .x) (c .before .before .before .before .before .before .before .before .before .args .y) (c .before .before .before .before .before .before .before .before .before .args .w) (c .before .before .before .before .before .before .before .before .before .args .h)) _ _ _ _ (c .before .before .before .before .before .enum-told .given .1) (record { byte = λ i. omega (arith, c .before .before .before .before .before .before .before .before .slice-known .given i) }) (record { a = omega arith; r = omega arith; g = omega arith; b = omega arith }) (c .before .before .before .before .plot-ink .ensures) refl (rw (toZ-ofZ w32 (c .before .before .before .before .before .before .before .before .before .args .x) (c .before .before .before .before .before .before .before .before .before .fits .x), toZ-ofZ w32 (c .before .before .before .before .before .before .before .before .before .args .y) (c .before .before .before .before .before .before .before .before .before .fits .y)) at (c .before .before .fill-in .ensures))
+unfolding dots
+returns-2 c = draws (c .before .before .before .before .before .before .before .before .before .before .before .args .canvas) (c .before .before .before .before .before .before .before .before .before .before .before .args .bytes .now) (c .before .before .before .before .before .before .before .before .before .before .before .args .clip) (c .before .before .before .before .before .before .before .before .before .before .before .args .color) (fill (c .before .before .before .before .before .before .before .before .before .before .before .args .canvas) (c .before .before .before .before .before .before .before .before .before .before .before .args .x) (c .before .before .before .before .before .before .before .before .before .before .before .args .y) (c .before .before .before .before .before .before .before .before .before .before .before .args .w) (c .before .before .before .before .before .before .before .before .before .before .before .args .h)) _ _ _ _ _ (sound (c .before .before .before .before .before .before .before .before .before .before .before .args .canvas) (c .before .before .before .before .before .before .before .before .before .before .before .args .bytes .now) _ (c .before .before .before .before .before .before .before .before .before .judge .ensures) Sound (c .before .before .before .before .before .before .before .enum-told .given .1) refl) (record { byte = λ i. omega (arith, c .before .before .before .before .before .before .before .before .before .before .slice-known .given i) }) (record { a = omega (arith, c .before .before .before .before .before .before .before .before .before .before .before .good .1 .1 .1 .1 .1 .1 .0); r = omega (arith, c .before .before .before .before .before .before .before .before .before .before .before .good .1 .1 .1 .1 .1 .1 .0); g = omega (arith, c .before .before .before .before .before .before .before .before .before .before .before .good .1 .1 .1 .1 .1 .1 .0); b = omega (arith, c .before .before .before .before .before .before .before .before .before .before .before .good .1 .1 .1 .1 .1 .1 .0) }) (c .before .before .before .before .before .before .plot-ink .ensures) refl (rw (lowers (c .before .before .before .before .before .before .before .before .before .before .before .args .x) _ (c .before .before .before .before .before .before .before .before .before .before .before .fits .x) (c .before .before .before .before .before .lift .ensures), lowers (c .before .before .before .before .before .before .before .before .before .before .before .args .y) _ (c .before .before .before .before .before .before .before .before .before .before .before .fits .y) (c .before .before .before .before .lift2 .ensures)) at (c .before .before .fill-in .ensures))
 
 pub fill-rect-spec : {M : Type 1} → statement M
 fill-rect-spec =
@@ -46,6 +55,8 @@ fill-rect-spec =
     returns
     enum-told
     plot-ink-requires
+    lift-requires
+    lift-requires-2
     fill-in-requires
     same-length
     returns-2)

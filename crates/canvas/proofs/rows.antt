@@ -1,0 +1,2 @@
+-- The laws of rows and boxes of pixels.
+pub mod Rows

@@ -1,0 +1,18 @@
+-- Area calls: they ignore XOR, and are no drawings that XOR takes away.
+use mathlib.Core.List.{List}
+use Prim.Native.Nat.{ℕ}
+use lib.IntN.{ℤ}
+use lib.ListN.{length}
+use Rattle.words.specs.Invert.{invertWord}
+use Rattle.canvas.specs.declared.Canvas.{Canvas}
+use Rattle.canvas.specs.declared.Clip.{Clip}
+use Rattle.canvas.specs.Bytes.{form}
+use Rattle.canvas.specs.Faults.{verdict}
+use Rattle.canvas.specs.Plot.{inks}
+use Rattle.canvas.specs.Boxes.{fill}
+use Rattle.canvas.specs.Call.{Outcome, drawing}
+
+-- "Inversion complements r, g, b through the colour and keeps alpha."
+-- "For area copy and inversion it is the number of pixels written."
+unfoldable pub invertRect : Canvas → ℤ → ℤ → ℕ → ℕ → Clip → List ℕ → Outcome
+invertRect v x y w h c b = drawing (verdict v (length b)) v c (inks (invertWord (form v)) (fill v x y w h)) b
