@@ -1,2 +1,3 @@
 -- The laws of rows and boxes of pixels.
 pub mod Rows
+pub mod Parts

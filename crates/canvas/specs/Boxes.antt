@@ -3,10 +3,10 @@ use mathlib.Core.Bool.{Bool, cond, _||_}
 use mathlib.Core.List.{List, [], _∷_, _++_}
 use Prim.Native.Nat.{ℕ, zero, suc, _-_}
 use lib.Dec.{eqb}
-use lib.IntN.{ℤ, pos, _+ℤ_}
+use lib.IntN.{ℤ, pos, _+ℤ_, _-ℤ_}
 use lib.Signed.{ltZ}
 use Rattle.canvas.specs.declared.Canvas.{Canvas}
-use Rattle.canvas.specs.Clip.{within}
+use Rattle.canvas.specs.Clip.{both, within}
 use Rattle.canvas.specs.Plot.{Point, at, Plot, plot}
 
 -- Those of the n numbers from i on that pass a test.
@@ -30,6 +30,14 @@ spots f xs ys = each (λ j. each (λ i. plot (f i j) (pos i) (pos j) ∷ []) xs)
 -- The overlap of a box and the canvas, row by row.
 unfoldable pub fill : Canvas → ℤ → ℤ → ℕ → ℕ → List Point
 fill v x y w h = each (λ j. each (λ i. at (pos i) (pos j) ∷ []) (side x w (v .width))) (side y h (v .height))
+
+-- The source's column (or row) of a canvas's column i, in a box that starts at d and is taken from s on.
+abbrev pub sourceOf : ℤ → ℤ → ℕ → ℤ
+sourceOf d s i = s +ℤ (pos i -ℤ d)
+
+-- The columns of a canvas n wide in the span of len from d whose source columns are on a source m wide.
+abbrev pub shown : ℤ → ℤ → ℕ → ℕ → ℕ → List ℕ
+shown d s len m n = select (λ i. both (within d len (pos i)) (within (pos 0) m (sourceOf d s i))) 0 n
 
 -- A point, if its place a is below n.
 abbrev pub below : ℤ → ℕ → Point → List Point

@@ -4,16 +4,18 @@ use mathlib.Core.Bool.{Bool, true, false}
 use mathlib.Core.List.{List, [], _∷_}
 use Prim.Native.Nat.{ℕ, zero, suc, _+_, _-_, _<_, _≤_}
 use lib.IntN.{ℤ, pos, negsuc, subℕ}
+use lib.ListN.{length, getD}
 use Rattle.words.specs.declared.Ink.{Ink}
-use Rattle.words.specs.Format.{range}
+use Rattle.words.specs.Format.{Format, range}
+use Rattle.words.specs.Word.{seen}
 use Rattle.words.specs.Ink.{inked}
 use Rattle.canvas.specs.declared.Canvas.{Canvas}
 use Rattle.canvas.specs.declared.Clip.{Clip}
 use Rattle.canvas.specs.declared.Tally.{Tally}
-use Rattle.canvas.specs.Bytes.{load, store, cells, form}
+use Rattle.canvas.specs.Bytes.{load, store, cells, form, loadAt}
 use Rattle.canvas.specs.Faults.{Sized}
 use Rattle.canvas.specs.Clip.{both, within}
-use Rattle.canvas.specs.Boxes.{select, each}
+use Rattle.canvas.specs.Boxes.{select, each, sourceOf}
 use Rattle.canvas.specs.Plot.{Plot, Fate, landed, outside, clipped, fate, Hit, hit, hitOf, touch}
 
 -- A signed number of 32 bits as one that is not negative, 2^31 above it; and back.
@@ -39,6 +41,8 @@ pub record Holds (t : ℕ → Bool) (lo end : ℕ) : Type 0 where
 pub record Cut (lo end : ℕ) (c : ℤ) (m n from to : ℕ) : Type 0 where
   pub ordered : from ≤ to
   pub held : to ≤ n
+  pub begins : from < to → lo ≤ from
+  pub ends : from < to → to ≤ end
   pub same : (t : ℕ → Bool) → Holds t lo end → run from (to - from) ≡ select (λ i. both (t i) (within c m (pos i))) 0 n
 
 -- What a touch of the s bytes from o on leaves.
@@ -103,3 +107,34 @@ field f xs ys = each (marks f xs) ys
 -- One ink everywhere.
 abbrev pub flat : (ℕ → ℕ) → ℕ → ℕ → ℕ → ℕ
 flat f x y = f
+
+-- What a chunk holds: the words of n pixels of row y from x on.
+pub record Taken (v : Canvas) (b : List ℕ) (y x : ℕ) (ws : List ℕ) : Type 0 where
+  pub word : (i : ℕ) → i < length ws → getD ws i 0 ≡ loadAt v b (x + i) y
+
+-- The words of a chunk, laid from x on in place of those stored.
+abbrev pub laid : List ℕ → ℕ → ℕ → ℕ → ℕ → ℕ
+laid ws x i j w = getD ws (i - x) 0
+
+-- What reading sees of each word.
+pub record SeenAs (f : Format) (ws ws′ : List ℕ) : Type 0 where
+  pub long : length ws′ ≡ length ws
+  pub word : (i : ℕ) → i < length ws → getD ws′ i 0 ≡ seen f (getD ws i 0)
+
+-- What is seen, in these bytes, of the pixel as far from sx and sy as a pixel is from x and y.
+abbrev pub shifted : Canvas → List ℕ → ℕ → ℕ → ℕ → ℕ → ℕ → ℕ → ℕ → ℕ
+shifted v b x y sx sy i j w = seen (form v) (loadAt v b (sx + (i - x)) (sy + (j - y)))
+
+-- The source of what is shown begins at from + s - p, and is on its side of m.
+pub record Sourced (p s m from to : ℕ) : Type 0 where
+  pub begins : from < to → p ≤ from + s
+  pub ends : from < to → from + s - p + (to - from) ≤ m
+
+-- What `shown_in` answers: of a side of n pixels, those in the span of len from p whose source, from s on, is on a side of m, and
+-- that lie in the clip's span of k from c.
+pub record Shown (p s len m : ℕ) (c : ℤ) (k n from to : ℕ) : Type 0 where
+  pub ordered : from ≤ to
+  pub held : to ≤ n
+  pub same : run from (to - from)
+      ≡ select (λ i. both (both (within (lowered p) len (pos i)) (within (pos 0) m (sourceOf (lowered p) (lowered s) i))) (within c k (pos i))) 0 n
+  pub sourced : Sourced p s m from to

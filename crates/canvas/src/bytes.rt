@@ -18,35 +18,35 @@ fn wide(x: u8) -> u32
 }
 
 // The words of one, two and four bytes at an offset. Each is one sum, which the compiler reads as one load.
-fn word1(b: &[u8], o: usize) -> u32
+pub(crate) fn word1(b: &[u8], o: usize) -> u32
     requires { ⌜ o + 1 ≤ length (now b) ⌝ }
     ensures { λ r. ⌜ (r ≡ load (cells 1 o) (now (b .entry))) × (r < 256) ⌝ }
 {
     wide(b[o])
 }
 
-fn word2(b: &[u8], o: usize) -> u32
+pub(crate) fn word2(b: &[u8], o: usize) -> u32
     requires { ⌜ o + 2 ≤ length (now b) ⌝ }
     ensures { λ r. ⌜ (r ≡ load (cells 2 o) (now (b .entry))) × (r < 65536) ⌝ }
 {
     wide(b[o]) + 256 * wide(b[o + 1])
 }
 
-fn word4(b: &[u8], o: usize) -> u32
+pub(crate) fn word4(b: &[u8], o: usize) -> u32
     requires { ⌜ o + 4 ≤ length (now b) ⌝ }
     ensures { λ r. ⌜ (r ≡ load (cells 4 o) (now (b .entry))) × (r < 4294967296) ⌝ }
 {
     wide(b[o]) + 256 * wide(b[o + 1]) + 65536 * wide(b[o + 2]) + 16777216 * wide(b[o + 3])
 }
 
-fn put1(b: &mut [u8], o: usize, w: u32)
+pub(crate) fn put1(b: &mut [u8], o: usize, w: u32)
     requires { ⌜ o + 1 ≤ length (now b) ⌝ }
     ensures { λ _. ⌜ now (b .exit) ≡ store (cells 1 o) (now (b .entry)) w ⌝ }
 {
     b[o] = (w % 256) as u8;
 }
 
-fn put2(b: &mut [u8], o: usize, w: u32)
+pub(crate) fn put2(b: &mut [u8], o: usize, w: u32)
     requires { ⌜ o + 2 ≤ length (now b) ⌝ }
     ensures { λ _. ⌜ now (b .exit) ≡ store (cells 2 o) (now (b .entry)) w ⌝ }
 {
@@ -55,7 +55,7 @@ fn put2(b: &mut [u8], o: usize, w: u32)
     b[o + 1] = (w1 % 256) as u8;
 }
 
-fn put4(b: &mut [u8], o: usize, w: u32)
+pub(crate) fn put4(b: &mut [u8], o: usize, w: u32)
     requires { ⌜ o + 4 ≤ length (now b) ⌝ }
     ensures { λ _. ⌜ now (b .exit) ≡ store (cells 4 o) (now (b .entry)) w ⌝ }
 {

@@ -3,7 +3,7 @@ ghost use mathlib.Core.Path.{_≡_};
 ghost use Prim.Native.Nat.{_+_, _-_, _≤_, _<_, min, max};
 ghost use lib.IntN.{pos};
 ghost use Rattle.canvas.specs.Clip.{within, inClip, larger, shared};
-ghost use Rattle.canvas.specs.Walk.{lifted, Cut};
+ghost use Rattle.canvas.specs.Walk.{lifted, Cut, Shown};
 use crate::Clip;
 
 // A signed number as one that is not negative, 2^31 above it.
@@ -100,6 +100,29 @@ pub(crate) fn cut(s: Span, c: i32, m: u32, n: u32) -> Span
         from: from as usize,
         to: to as usize,
     }
+}
+
+// What two spans share.
+fn meet(a: Span, b: Span) -> Span
+    ensures { λ r. ⌜ (r .from ≡ max (a .from) (b .from)) × (r .to ≡ min (a .to) (b .to)) ⌝ }
+{
+    let from = most(a.from as u64, b.from as u64);
+    let to = least(a.to as u64, b.to as u64);
+    Span {
+        from: from as usize,
+        to: to as usize,
+    }
+}
+
+// The part of a canvas's side of n pixels that lies in the span of len from p and in the clip's, and whose source from s
+// on is on a side of m. Starts are lifted.
+pub(crate) fn shown_in(p: u64, s: u64, len: u32, m: u32, c: i32, k: u32, n: u32) -> Span
+    requires { ⌜ (n ≤ 32767) × ((p < 4294967296) × (s < 4294967296)) ⌝ }
+    ensures { λ r. ⌜ Shown p s len m c k n (r .from) (r .to) ⌝ }
+{
+    let own = reach(p, len, 2147483648);
+    let source = reach(p, m, s);
+    cut(meet(own, source), c, k, n)
 }
 
 pub(crate) fn larger_of(a: i32, b: i32) -> i32

@@ -15,8 +15,8 @@ use Rattle.canvas.specs.declared.Clip.{Clip}
 use Rattle.canvas.specs.declared.Tally.{Tally}
 use Rattle.canvas.specs.Plot.{Point, at, Plot, plot, inks, Fate, landed, outside, clipped, fate, Hit, hit, hitOf, keep, hits, paint}
 use Rattle.canvas.specs.Clip.{both, within, inClip}
-use Rattle.canvas.specs.Boxes.{select, side, each, spots, fill}
-use Rattle.canvas.specs.Walk.{lowered, run, Cut, plus, Work, work, Fits, Ready, Did, mark, marks, field, flat}
+use Rattle.canvas.specs.Boxes.{select, side, each, spots, sourceOf, shown, fill}
+use Rattle.canvas.specs.Walk.{lowered, run, Cut, Shown, plus, Work, work, Fits, Ready, Did, mark, marks, field, flat}
 use Rattle.canvas.proofs.bytes.Places.{area-le}
 use Rattle.canvas.proofs.span.Spans.{both-no, span-holds}
 use Rattle.canvas.proofs.plot.Fates.{on-canvas, is-inside}
@@ -137,6 +137,19 @@ module _ (v : Canvas) (c : Clip) (f : ℕ → ℕ) (p q w h : ℕ) (s : SFits w3
       ap (hits v c) (fill-spots v f (lowered p) (lowered q) w h)
       ∙ spots-hits v c (flat f) (λ i. within (lowered p) w (pos i)) (λ j. within (lowered q) h (pos j))
       ∙ ap₂ (λ (l m : List ℕ). field (flat f) l m) (sym ex) (sym ey)
+
+-- what is shown of a source
+module _ (v : Canvas) (c : Clip) (p q u t w h m n : ℕ) (s : SFits w32 (c .x)) (r : SFits w32 (c .y)) (x0 x1 y0 y1 : ℕ)
+    (xs : Shown p u w m (toZ w32 (ofZ w32 (c .x))) (c .width) (v .width) x0 x1)
+    (ys : Shown q t h n (toZ w32 (ofZ w32 (c .y))) (c .height) (v .height) y0 y1) where
+  pub shown-hits : (f : ℕ → ℕ → ℕ → ℕ)
+      → hits v c (spots f (shown (lowered p) (lowered u) w m (v .width)) (shown (lowered q) (lowered t) h n (v .height))) ≡ field f (run x0 (x1 - x0)) (run y0 (y1 - y0))
+  shown-hits f =
+      let tx : ℕ → Bool = λ i. both (within (lowered p) w (pos i)) (within (pos 0) m (sourceOf (lowered p) (lowered u) i)) in
+      let ty : ℕ → Bool = λ j. both (within (lowered q) h (pos j)) (within (pos 0) n (sourceOf (lowered q) (lowered t) j)) in
+      let ex : run x0 (x1 - x0) ≡ select (λ i. both (tx i) (within (c .x) (c .width) (pos i))) 0 (v .width) = rw (toZ-ofZ w32 (c .x) s) at (xs .same) in
+      let ey : run y0 (y1 - y0) ≡ select (λ j. both (ty j) (within (c .y) (c .height) (pos j))) 0 (v .height) = rw (toZ-ofZ w32 (c .y) r) at (ys .same) in
+      spots-hits v c f tx ty ∙ ap₂ (λ (l k : List ℕ). field f l k) (sym ex) (sym ey)
 
 -- hits of a field, painted and counted, are the plots' work
 module _ (v : Canvas) (c : Clip) (ps : List Plot) (f : ℕ → ℕ → ℕ → ℕ) (x0 x1 y0 y1 : ℕ) (e : hits v c ps ≡ field f (run x0 (x1 - x0)) (run y0 (y1 - y0))) (b : List ℕ) (t : Tally) where

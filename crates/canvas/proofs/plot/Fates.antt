@@ -18,15 +18,15 @@ use Rattle.canvas.proofs.span.Lifts.{lowered-neg, lowered-pos}
 
 -- ---- a side of the canvas
 
-side-yes : (n x : ℕ) → x < n → within (pos 0) n (pos x) ≡ true
+pub side-yes : (n x : ℕ) → x < n → within (pos 0) n (pos x) ≡ true
 unfolding within
 side-yes n x h = rw (leb·zero x, zero-add n, lt-ltb x n h) refl
 
-side-past : (n x : ℕ) → n ≤ x → within (pos 0) n (pos x) ≡ false
+pub side-past : (n x : ℕ) → n ≤ x → within (pos 0) n (pos x) ≡ false
 unfolding within
 side-past n x h = rw (leb·zero x, zero-add n, le-ltb x n h) refl
 
-side-minus : (n x : ℕ) → within (pos 0) n (negsuc x) ≡ false
+pub side-minus : (n x : ℕ) → within (pos 0) n (negsuc x) ≡ false
 unfolding within
 side-minus n x = refl
 

@@ -14,7 +14,7 @@ use Rattle.canvas.specs.Walk.{lifted}
 use Rattle.canvas.proofs.span.Spans.{same-leb}
 
 -- the two forms of a difference
-sub-neg : (m k : ℕ) → m < k → subℕ m k ≡ negsuc (k - suc m)
+pub sub-neg : (m k : ℕ) → m < k → subℕ m k ≡ negsuc (k - suc m)
 sub-neg m k h = rw (lt-ltb m k h) refl
 
 pub sub-pos : (m k : ℕ) → k ≤ m → subℕ m k ≡ pos (m - k)

@@ -177,9 +177,15 @@ module _ (lo end : ℕ) (c : ℤ) (m n u : ℕ) (s : SFits w32 c) (eu : u ≡ li
         run-is (λ i. both (t i) (within c m (pos i))) from (min end ct) n to g gt
 
     pub cut-is : from ≤ to → Cut lo end c m n from to
-    cut-is l = record { ordered = l; held = rw gt (min-le-right (min end ct) n); same = same-run }
+    cut-is l = record {
+      ordered = l;
+      held = rw gt (min-le-right (min end ct) n);
+      begins = λ h. omega arith;
+      ends = λ h. omega arith;
+      same = same-run;
+    }
 
     pub cut-none : to < from → Cut lo end c m n 0 0
     cut-none l =
         let z : to - from ≡ 0 = omega arith in
-        record { ordered = omega arith; held = omega arith; same = λ t h. run-zero 0 ∙ sym (run-zero from) ∙ ap (run from) (sym z) ∙ same-run t h }
+        record { ordered = omega arith; held = omega arith; begins = λ h. absurd (omega arith); ends = λ h. absurd (omega arith); same = λ t h. run-zero 0 ∙ sym (run-zero from) ∙ ap (run from) (sym z) ∙ same-run t h }

@@ -1,0 +1,2 @@
+-- The laws of chunks.
+pub mod Chunks

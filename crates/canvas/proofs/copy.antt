@@ -1,0 +1,2 @@
+-- The laws of area copies.
+pub mod Moves
