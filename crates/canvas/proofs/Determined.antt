@@ -18,6 +18,8 @@ use Rattle.canvas.proofs.plot.put_pixel.Reads as put-pixel
 use Rattle.canvas.proofs.boxes.draw_rect.Reads as draw-rect
 use Rattle.canvas.proofs.boxes.fill_rect.Reads as fill-rect
 use Rattle.canvas.proofs.areas.invert_rect.Reads as invert-rect
+use Rattle.canvas.proofs.copy.copy_area.Reads as copy-area
+use Rattle.canvas.proofs.pictures.draw.Reads as draw
 use Rattle.canvas.proofs.look.get_pixel.Reads as get-pixel
 use Rattle.canvas.proofs.Clip.intersect.Reads as intersect
 use Rattle.canvas.proofs.Refusal.number.Reads as number-of
@@ -91,6 +93,12 @@ draw-rect-determined κs a s s' r r' p q = leaves-same r r' (now (s .1 .0)) (now
 
 pub invert-rect-determined : (κs : _) (a : _) (s s' : _) (r r' : _) → invert-rect.Post κs a r s → invert-rect.Post κs a r' s' → (r ≡ r') × (now (s .1 .0) ≡ now (s' .1 .0))
 invert-rect-determined κs a s s' r r' p q = leaves-same r r' (now (s .1 .0)) (now (s' .1 .0)) (p ∙ sym q)
+
+pub copy-area-determined : (κs : _) (a : _) (s s' : _) (r r' : _) → copy-area.Post κs a r s → copy-area.Post κs a r' s' → (r ≡ r') × (now (s .1 .0) ≡ now (s' .1 .0))
+copy-area-determined κs a s s' r r' p q = leaves-same r r' (now (s .1 .0)) (now (s' .1 .0)) (p ∙ sym q)
+
+pub draw-determined : (κs : _) (a : _) (s s' : _) (r r' : _) → draw.Post κs a r s → draw.Post κs a r' s' → (r ≡ r') × (now (s .1 .0) ≡ now (s' .1 .0))
+draw-determined κs a s s' r r' p q = leaves-same r r' (now (s .1 .0)) (now (s' .1 .0)) (p ∙ sym q)
 
 pub get-pixel-determined : (κs : _) (a : _) (s s' : _) (r r' : _) → get-pixel.Post κs a r s → get-pixel.Post κs a r' s' → r ≡ r'
 get-pixel-determined κs a s s' r r' p q = reads-same r r' (p ∙ sym q)

@@ -1,14 +1,18 @@
 -- Calls with XOR on, made one after the other: any order leaves the same bytes and gives each its answer, and made again,
 -- in any order, they are taken away. Proved over the laws of words and of bytes; a new call adds a case of `Colored`, `shade` and `shaded`.
 use mathlib.Core.Path.{_≡_, refl, sym, ap, ap₂, _∙_, subst}
-use mathlib.Core.Bool.{Bool, true, false}
+use mathlib.Core.Bool.{Bool, true, false, cond, _||_}
 use mathlib.Core.List.{List, [], _∷_, _++_, map, append-assoc, List·Permᴰ, List·Permᴰ·nil, List·Permᴰ·cons, List·Permᴰ·swap, List·Permᴰ·trans, Permᴰ·append-right, Permᴰ·append-left, List·Permᴰ·append-comm, Permᴰ·refl}
 use Prim.Native.Nat.{ℕ}
 use lib.Dec.{eqb}
 use lib.ListN.{length}
 use Rattle.words.specs.declared.Color.{Color}
 use Rattle.words.specs.Ink.{keepsAlpha, plotWord}
+use Rattle.words.specs.Word.{color}
 use Rattle.words.proofs.Laws.{Channels, plot-keeps, plot-swap, plot-twice, settles-back}
+use Rattle.words.proofs.Reading.{read-channels}
+use Rattle.blending.specs.Blend.{part, scaled, blendWord}
+use Rattle.blending.proofs.Laws.{scaled-channels}
 use Rattle.canvas.specs.declared.Canvas.{Canvas}
 use Rattle.canvas.specs.declared.Clip.{Clip}
 use Rattle.canvas.specs.declared.Refusal.{Refusal}
@@ -17,7 +21,8 @@ use Rattle.canvas.specs.declared.faults.Verdict.the-variants.{Sound, Fau
 use Rattle.canvas.specs.Bytes.{form, On}
 use Rattle.canvas.specs.Faults.{orElse, verdict}
 use Rattle.canvas.specs.Plot.{Point, Dot, tint, plot, dip, landed, fate, Hit, hitOf, hits, paint}
-use Rattle.canvas.specs.Call.{Call, putPixel, drawRect, fillRect, clipOf, faultOf, dots, brush, plots, ruled, drawing, call}
+use Rattle.canvas.specs.Call.{Call, putPixel, drawRect, fillRect, draw, clipOf, faultOf, sourceColor, dots, brush, plots, ruled, drawing, call}
+use Rattle.canvas.specs.Boxes.{each, picture}
 use Rattle.canvas.specs.Calls.{after, unless, landing}
 use Rattle.canvas.proofs.bytes.Cells.{Bytes}
 use Rattle.canvas.proofs.faults.Verdicts.{sized}
@@ -30,6 +35,7 @@ abbrev pub Colored : Call → Type 0
 Colored (putPixel x y color clip) = Channels color
 Colored (drawRect x y w h color clip) = Channels color
 Colored (fillRect x y w h color clip) = Channels color
+Colored (draw dx dy w h source image sx sy clip) = Unit {0}
 
 pub data Fine : List Call → Type 0 where
   end : Fine []
@@ -42,6 +48,7 @@ abbrev pub shade : Call → Color → Color
 shade (putPixel x y color clip) c = c
 shade (drawRect x y w h color clip) c = c
 shade (fillRect x y w h color clip) c = c
+shade (draw dx dy w h source image sx sy clip) c = scaled c
 
 pub record Shaded (v : Canvas) (k : Call) (c : Color) : Type 0 where
   pub channels : Channels (shade k c)
@@ -57,11 +64,41 @@ unfolding tint
 tinted v k c [] s = no-more
 tinted v k c (p ∷ ps) s = and s (tinted v k c ps s)
 
+dots-append : {v : Canvas} {k : Call} {ds es : List Dot} → Dots v k ds → Dots v k es → Dots v k (ds ++ es)
+dots-append no-more e = e
+dots-append (and s d) e = and s (dots-append d e)
+
+dots-each : {v : Canvas} {k : Call} (g : ℕ → List Dot) → ((x : ℕ) → Dots v k (g x)) → (xs : List ℕ) → Dots v k (each g xs)
+unfolding each
+dots-each g h [] = no-more
+dots-each g h (x ∷ xs) = dots-append (h x) (dots-each g h xs)
+
+pictured : (v : Canvas) (k : Call) (c : ℕ → ℕ → Color) → ((i j : ℕ) → Shaded v k (c i j)) → (xs ys : List ℕ) → Dots v k (picture c xs ys)
+unfolding picture
+pictured v k c h xs ys = dots-each _ (λ j. dots-each _ (λ i. and (h i j) no-more) xs) ys
+
+-- a source's colour is drawn as a plot of the scaled one
+scaled-alpha : (c : Color) → eqb (scaled c .a) 0 ≡ eqb (c .a) 0
+unfolding scaled
+scaled-alpha c = go (eqb (c .a) 0 || eqb (c .a) 255)
+  where
+    go : (t : Bool) → eqb (cond t c (color (c .a) (part (c .a) (c .r)) (part (c .a) (c .g)) (part (c .a) (c .b))) .a) 0 ≡ eqb (c .a) 0
+    go true = refl
+    go false = refl
+
+blends : (v : Canvas) → v .xor ≡ true → (c : Color) → blendWord (form v) (v .xor) c ≡ plotWord (form v) true (scaled c)
+unfolding blendWord
+blends v x c = ap (λ (t : Bool). blendWord (form v) t c) x
+
 pub shaded : (v : Canvas) → v .xor ≡ true → (k : Call) → Colored k → Dots v k (dots v k)
 unfolding dots
 shaded v x (putPixel px py color clip) c = tinted v _ color _ (record { channels = c; alike = refl; plain = ap (λ (t : Bool). plotWord (form v) t color) x })
 shaded v x (drawRect px py w h color clip) c = tinted v _ color _ (record { channels = c; alike = refl; plain = ap (λ (t : Bool). plotWord (form v) t color) x })
 shaded v x (fillRect px py w h color clip) c = tinted v _ color _ (record { channels = c; alike = refl; plain = ap (λ (t : Bool). plotWord (form v) t color) x })
+shaded v x (draw dx dy w h source image sx sy clip) c =
+    pictured v _ (sourceColor source image dx dy sx sy)
+    (λ i j. let k : Color = sourceColor source image dx dy sx sy i j in
+    record { channels = scaled-channels k (read-channels (form source) _); alike = scaled-alpha k; plain = blends v x k }) _ _
 
 -- ---- the hits of a call
 

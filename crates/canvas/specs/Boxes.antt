@@ -5,9 +5,10 @@ use Prim.Native.Nat.{ℕ, zero, suc, _-_}
 use lib.Dec.{eqb}
 use lib.IntN.{ℤ, pos, _+ℤ_, _-ℤ_}
 use lib.Signed.{ltZ}
+use Rattle.words.specs.declared.Color.{Color}
 use Rattle.canvas.specs.declared.Canvas.{Canvas}
 use Rattle.canvas.specs.Clip.{both, within}
-use Rattle.canvas.specs.Plot.{Point, at, Plot, plot}
+use Rattle.canvas.specs.Plot.{Point, at, Plot, plot, Dot, dot}
 
 -- Those of the n numbers from i on that pass a test.
 unfoldable pub select : (ℕ → Bool) → ℕ → ℕ → List ℕ
@@ -26,6 +27,10 @@ each g (x ∷ xs) = g x ++ each g xs
 -- A plot at each pixel of some columns and rows, row by row; its ink may hang on the pixel.
 unfoldable pub spots : (ℕ → ℕ → ℕ → ℕ) → List ℕ → List ℕ → List Plot
 spots f xs ys = each (λ j. each (λ i. plot (f i j) (pos i) (pos j) ∷ []) xs) ys
+
+-- A dot at each pixel of some columns and rows, row by row; its colour may hang on the pixel.
+unfoldable pub picture : (ℕ → ℕ → Color) → List ℕ → List ℕ → List Dot
+picture c xs ys = each (λ j. each (λ i. dot (c i j) (pos i) (pos j) ∷ []) xs) ys
 
 -- The overlap of a box and the canvas, row by row.
 unfoldable pub fill : Canvas → ℤ → ℤ → ℕ → ℕ → List Point

@@ -1,48 +1,60 @@
 -- The drawing calls: the plots that each makes, and what it answers and leaves.
 use mathlib.Core.List.{List, [], _∷_}
 use Prim.Native.Nat.{ℕ}
-use lib.IntN.{ℤ}
+use lib.IntN.{ℤ, natAbs}
 use lib.ListN.{length}
 use Rattle.words.specs.declared.Color.{Color}
+use Rattle.words.specs.Word.{toColor}
 use Rattle.words.specs.Ink.{plotWord}
+use Rattle.blending.specs.Blend.{blendWord}
 use Rattle.canvas.specs.declared.Canvas.{Canvas}
 use Rattle.canvas.specs.declared.Clip.{Clip}
 use Rattle.canvas.specs.declared.Drawn.{Drawn}
 use Rattle.canvas.specs.declared.Drawn.the-variants.{Refused, Done}
 use Rattle.canvas.specs.declared.faults.Verdict.{Verdict}
 use Rattle.canvas.specs.declared.faults.Verdict.the-variants.{Sound, Faulty}
-use Rattle.canvas.specs.Bytes.{form}
-use Rattle.canvas.specs.Faults.{number, orElse, verdict}
+use Rattle.canvas.specs.Bytes.{form, loadAt}
+use Rattle.canvas.specs.Faults.{number, orElse, verdict, asSource}
 use Rattle.canvas.specs.Plot.{Plot, at, Dot, tint, dip, hits, paint}
-use Rattle.canvas.specs.Boxes.{fill, outline}
+use Rattle.canvas.specs.Boxes.{fill, outline, picture, sourceOf, shown}
 
 pub data Call : Type 0 where
   putPixel : ℤ → ℤ → Color → Clip → Call
   drawRect : ℤ → ℤ → ℕ → ℕ → Color → Clip → Call
   fillRect : ℤ → ℤ → ℕ → ℕ → Color → Clip → Call
+  draw : ℤ → ℤ → ℕ → ℕ → Canvas → List ℕ → ℤ → ℤ → Clip → Call
 
 abbrev pub clipOf : Call → Clip
 clipOf (putPixel x y color clip) = clip
 clipOf (drawRect x y w h color clip) = clip
 clipOf (fillRect x y w h color clip) = clip
+clipOf (draw dx dy w h source image sx sy clip) = clip
 
 -- Its faults beside those of the canvas.
 abbrev pub faultOf : Call → Verdict
 faultOf (putPixel x y color clip) = Sound
 faultOf (drawRect x y w h color clip) = Sound
 faultOf (fillRect x y w h color clip) = Sound
+faultOf (draw dx dy w h source image sx sy clip) = asSource (verdict source (length image))
+
+-- The colour of the source that comes to a pixel.
+abbrev pub sourceColor : Canvas → List ℕ → ℤ → ℤ → ℤ → ℤ → ℕ → ℕ → Color
+sourceColor s image dx dy sx sy i j = toColor (form s) (loadAt s image (natAbs (sourceOf dx sx i)) (natAbs (sourceOf dy sy j)))
 
 -- Its points with their colours, on the canvas or off it, in the order of its rules.
 unfoldable pub dots : Canvas → Call → List Dot
 dots v (putPixel x y color clip) = tint color (at x y ∷ [])
 dots v (drawRect x y w h color clip) = tint color (outline v x y w h)
 dots v (fillRect x y w h color clip) = tint color (fill v x y w h)
+dots v (draw dx dy w h source image sx sy clip) =
+    picture (sourceColor source image dx dy sx sy) (shown dx sx w (source .width) (v .width)) (shown dy sy h (source .height) (v .height))
 
--- What a colour makes of the word stored on this canvas.
+-- What a colour makes of the word stored on this canvas: "`draw` blends instead."
 abbrev pub brush : Canvas → Call → Color → ℕ → ℕ
 brush v (putPixel x y color clip) = plotWord (form v) (v .xor)
 brush v (drawRect x y w h color clip) = plotWord (form v) (v .xor)
 brush v (fillRect x y w h color clip) = plotWord (form v) (v .xor)
+brush v (draw dx dy w h source image sx sy clip) = blendWord (form v) (v .xor)
 
 abbrev pub plots : Canvas → Call → List Plot
 plots v k = dip (brush v k) (dots v k)

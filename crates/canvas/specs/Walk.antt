@@ -7,8 +7,9 @@ use lib.IntN.{ℤ, pos, negsuc, subℕ}
 use lib.ListN.{length, getD}
 use Rattle.words.specs.declared.Ink.{Ink}
 use Rattle.words.specs.Format.{Format, range}
-use Rattle.words.specs.Word.{seen}
+use Rattle.words.specs.Word.{toColor, seen}
 use Rattle.words.specs.Ink.{inked}
+use Rattle.blending.specs.Blend.{blendWord}
 use Rattle.canvas.specs.declared.Canvas.{Canvas}
 use Rattle.canvas.specs.declared.Clip.{Clip}
 use Rattle.canvas.specs.declared.Tally.{Tally}
@@ -138,3 +139,7 @@ pub record Shown (p s len m : ℕ) (c : ℤ) (k n from to : ℕ) : Type 0 where
   pub same : run from (to - from)
       ≡ select (λ i. both (both (within (lowered p) len (pos i)) (within (pos 0) m (sourceOf (lowered p) (lowered s) i))) (within c k (pos i))) 0 n
   pub sourced : Sourced p s m from to
+
+-- What drawing makes of the word at a pixel, with the source's pixel as far from sx and sy as the pixel is from x and y.
+abbrev pub overlaid : Canvas → Canvas → List ℕ → ℕ → ℕ → ℕ → ℕ → ℕ → ℕ → ℕ → ℕ
+overlaid v s image x y sx sy i j w = blendWord (form v) (v .xor) (toColor (form s) (loadAt s image (sx + (i - x)) (sy + (j - y)))) w

@@ -1,6 +1,6 @@
 // Chunks: the words of a part of a row in a slice of u32, one loop for each word size.
 ghost use mathlib.Core.Path.{_≡_};
-ghost use Prim.Native.Nat.{_+_, _≤_, _<_};
+ghost use Prim.Native.Nat.{_+_, _≤_, _<_, min};
 ghost use lib.ListN.{length};
 ghost use Rattle.canvas.specs.Bytes.{size};
 ghost use Rattle.canvas.specs.Faults.{Sized};
@@ -111,4 +111,14 @@ pub(crate) fn lay(canvas: Canvas, b: &mut [u8], y: usize, x: usize, ws: &[u32])
         1 => lay2(canvas, b, y, x, ws),
         _ => lay4(canvas, b, y, x, ws),
     }
+}
+
+// The smaller of two numbers of pixels.
+pub(crate) fn fewer(a: usize, b: usize) -> usize
+    ensures { λ r. ⌜ r ≡ min a b ⌝ }
+{
+    if a < b {
+        return a;
+    }
+    b
 }

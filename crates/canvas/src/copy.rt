@@ -1,7 +1,7 @@
 // Area copy without a second buffer: chunk by chunk, in the direction in which no pixel is written before it is read.
 ghost use mathlib.Core.Path.{_≡_};
 ghost use mathlib.Core.Bool.{cond};
-ghost use Prim.Native.Nat.{_+_, _-_, _*_, _≤_, _<_, min};
+ghost use Prim.Native.Nat.{_+_, _-_, _*_, _≤_, _<_};
 ghost use lib.ListN.{length};
 ghost use Rattle.words.specs.Format.{formatOf, rgb8};
 ghost use Rattle.canvas.specs.Faults.{Sized};
@@ -13,21 +13,13 @@ use crate::Canvas;
 use crate::Clip;
 use crate::Drawn;
 use crate::Tally;
+use crate::chunks::fewer;
 use crate::chunks::lay;
 use crate::chunks::take;
 use crate::faults::Verdict;
 use crate::span::Span;
 use crate::span::lift;
 use crate::span::shown_in;
-
-fn fewer(a: usize, b: usize) -> usize
-    ensures { λ r. ⌜ r ≡ min a b ⌝ }
-{
-    if a < b {
-        return a;
-    }
-    b
-}
 
 fn either(t: bool, a: usize, b: usize) -> usize
     ensures { λ r. ⌜ r ≡ cond t a b ⌝ }
@@ -59,7 +51,15 @@ fn see(format: u32, ws: &mut [u32])
 }
 
 // As many pixels as the chunk holds, of row sy from sx on, to row y from x on.
-fn copy_chunk(canvas: Canvas, b: &mut [u8], y: usize, x: usize, sy: usize, sx: usize, ws: &mut [u32])
+fn copy_chunk(
+    canvas: Canvas,
+    b: &mut [u8],
+    y: usize,
+    x: usize,
+    sy: usize,
+    sx: usize,
+    ws: &mut [u32],
+)
     requires { ⌜ (Sized canvas (now b)) × ((x + length (now ws) ≤ canvas .width) × ((sx + length (now ws) ≤ canvas .width) × ((y < canvas .height) × (sy < canvas .height)))) ⌝ }
     ensures { λ _. ⌜ now (b .exit) ≡ paint canvas (marks (shifted canvas (now (b .entry)) x y sx sy) (run x (length (now (ws .entry)))) y) (now (b .entry)) ⌝ }
 {

@@ -11,6 +11,7 @@ mod chunks;
 mod copy;
 mod faults;
 mod look;
+mod pictures;
 mod plot;
 mod rows;
 mod span;
@@ -20,6 +21,7 @@ pub use boxes::draw_rect;
 pub use boxes::fill_rect;
 pub use copy::copy_area;
 pub use look::get_pixel;
+pub use pictures::draw;
 pub use plot::put_pixel;
 use words::Color;
 

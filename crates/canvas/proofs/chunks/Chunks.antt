@@ -1,10 +1,10 @@
 -- A chunk filled word by word, and one laid out word by word.
 use mathlib.Core.Path.{_≡_, refl, sym, ap, _∙_}
-use mathlib.Core.List.{List}
-use Prim.Native.Nat.{ℕ, suc, _+_, _*_, _-_, _≤_, _<_}
+use mathlib.Core.List.{List, _++_}
+use Prim.Native.Nat.{ℕ, _+_, _*_, _-_, _≤_, _<_, min}
 use native.Mathlib.Omega.{arith}
 use native.Mathlib.Decide.{ℕ-discrete}
-use lib.ListN.{length, getD, set, length-set}
+use lib.ListN.{length, take, drop, getD, set, length-set, length-append, take-append-drop}
 use lib.Seq.{getD-set-same, getD-set-other}
 use Rattle.canvas.specs.declared.Canvas.{Canvas}
 use Rattle.canvas.specs.Bytes.{load, store, cells, size, loadAt, On}
@@ -50,3 +50,12 @@ module _ (v : Canvas) (b : List ℕ) (y x k o s : ℕ) (ws : List ℕ) (r : Size
   pub lay-one : (w : ℕ) (b′ : List ℕ) → w ≡ getD ws (k - x) 0 → b′ ≡ store (cells s o) b w → b′ ≡ paint v (mark (laid ws x) y k) b
   unfolding mark paint
   lay-one w b′ g h = touch-is v b k y o r p (rw z e) s z b′ (laid ws x k y) _ w refl g h
+
+-- a part of a chunk that was lent comes back as long
+pub prefix-kept : (m : ℕ) (l ws : List ℕ) → length ws ≡ length (take m l) → length (ws ++ drop m l) ≡ length l
+prefix-kept m l ws e =
+    length-append ws (drop m l) ∙ ap (λ (k : ℕ). k + length (drop m l)) e ∙ sym (length-append (take m l) (drop m l)) ∙ ap length (take-append-drop m l)
+
+-- how much the next part takes
+pub part-fits : (n k m : ℕ) → k < n → m ≡ min (n - k) 64 → (k + m ≤ n) × ((m ≤ 64) × (1 ≤ m))
+part-fits n k m l e = (omega arith, (omega arith, omega arith))

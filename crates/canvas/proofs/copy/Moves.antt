@@ -2,12 +2,12 @@
 use mathlib.Core.Path.{_≡_, refl, sym, ap, ap₂, _∙_}
 use mathlib.Core.Bool.{Bool, true, false, cond}
 use mathlib.Core.List.{List, [], _∷_, _++_, append-nil}
-use Prim.Native.Nat.{ℕ, zero, suc, _+_, _-_, _%_, _≤_, _<_, min}
+use Prim.Native.Nat.{ℕ, zero, suc, _+_, _-_, _%_, _≤_, _<_}
 use native.Mathlib.Omega.{arith}
 use native.Mathlib.Decide.{ℕ-discrete, decLe}
 use borrow.Author.Tests.{le-leb, lt-leb}
 use lib.Dec.{leb}
-use lib.ListN.{length, take, drop, getD, set, length-set, length-append, take-append-drop}
+use lib.ListN.{length, getD, set, length-set}
 use lib.Seq.{getD-set-same, getD-set-other}
 use Rattle.words.specs.Format.{Format, rgb332, rgb565, rgb8, argb, abgr, none, formatOf, range}
 use Rattle.words.specs.Word.{fromColor, toColor, seen}
@@ -281,15 +281,7 @@ rows-all {v} {b₀} {x} {y} {sx} {sy} {n} {m} {below} {k} d l =
 pub rows-sized : {v : Canvas} {b₀ : List ℕ} {x y sx sy n m : ℕ} {below : Bool} {k : ℕ} {b : List ℕ} → Rows v b₀ x y sx sy n m below k b → length b ≡ length b₀
 rows-sized {v} {b₀} d = ap length (d .same) ∙ paint-length v _ b₀
 
--- a part of a chunk that was lent comes back as long
-pub prefix-kept : (m : ℕ) (l ws : List ℕ) → length ws ≡ length (take m l) → length (ws ++ drop m l) ≡ length l
-prefix-kept m l ws e =
-    length-append ws (drop m l) ∙ ap (λ (k : ℕ). k + length (drop m l)) e ∙ sym (length-append (take m l) (drop m l)) ∙ ap length (take-append-drop m l)
-
--- where the code's next part begins, and how much it takes
-pub part-fits : (n k m : ℕ) → k < n → m ≡ min (n - k) 64 → (k + m ≤ n) × ((m ≤ 64) × (1 ≤ m))
-part-fits n k m l e = (omega arith, (omega arith, omega arith))
-
+-- where the next part begins
 pub part-at : (r : Bool) (n k m at : ℕ) → k + m ≤ n → at ≡ cond r k (n - k - m) → at + m ≤ n
 part-at true n k m at l e = omega arith
 part-at false n k m at l e = omega arith

@@ -3,6 +3,7 @@ use mathlib.Core.Path.{_≡_, refl, sym, ap, _∙_}
 use mathlib.Core.List.{List, [], _∷_}
 use Prim.Native.Nat.{ℕ, _+_, _<_}
 use native.Mathlib.Nat.{zero-add}
+use native.Mathlib.Omega.{arith}
 use lib.ListN.{length}
 use Rattle.words.specs.declared.Color.{Color}
 use Rattle.words.specs.declared.Ink.{Ink}
@@ -17,7 +18,7 @@ use Rattle.canvas.specs.declared.Tally.{Tally}
 use Rattle.canvas.specs.declared.faults.Verdict.{Verdict}
 use Rattle.canvas.specs.declared.faults.Verdict.the-variants.{Sound, Faulty}
 use Rattle.canvas.specs.Bytes.{form}
-use Rattle.canvas.specs.Faults.{orElse, verdict, Sized}
+use Rattle.canvas.specs.Faults.{orElse, verdict, asSource, Sized}
 use Rattle.canvas.specs.Plot.{Plot, plot, Point, inks, tint, dip, hits, paint}
 use Rattle.canvas.specs.Call.{outcome, statusOf, countOf, leaves, drawing}
 use Rattle.canvas.specs.Walk.{Work, work, drawn, Keeps, Did}
@@ -51,6 +52,18 @@ module _ (v : Canvas) (b : List ℕ) (d : Verdict) (e : d ≡ verdict v (length 
   pub sound : (own : Verdict) → d ≡ Sound → own ≡ Sound → orElse (verdict v (length b)) own ≡ Sound
   unfolding orElse
   sound own h o = rw (← e, h) o
+
+  pub faulty-own : (own : Verdict) (r : Refusal) → d ≡ Sound → own ≡ Faulty r → orElse (verdict v (length b)) own ≡ Faulty r
+  unfolding orElse
+  faulty-own own r h o = rw (← e, h) o
+
+-- a source that is no fault is sound
+pub source-accepts : (v : Canvas) (b : List ℕ) (d : Verdict) → d ≡ asSource (verdict v (length b)) → d ≡ Sound → Sized v b
+source-accepts v b d e h = sized v b (go (verdict v (length b)) (sym e ∙ h))
+  where
+    go : (a : Verdict) → asSource a ≡ Sound → a ≡ Sound
+    go Sound q = refl
+    go (Faulty r) q = absurd (let z : _≡_ {A = ℕ} 0 1 = cc in omega arith)
 
 -- the plots were made, and the call is accepted
 pub finishes : (v : Canvas) (b : List ℕ) (c : Clip) (ps : List Plot) (a : Verdict) (t₀ t : Tally) (b′ : List ℕ) → a ≡ Sound → t₀ .landed ≡ 0 → Did v c ps (work b t₀) (work b′ t)

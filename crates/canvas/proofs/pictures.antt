@@ -1,0 +1,2 @@
+-- The laws of drawing images.
+pub mod Overlays
