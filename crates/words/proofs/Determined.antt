@@ -11,6 +11,7 @@ use Rattle.words.proofs.read332.Reads as read332
 use Rattle.words.proofs.read565.Reads as read565
 use Rattle.words.proofs.xor_ink.Reads as xor-ink
 use Rattle.words.proofs.plot_ink.Reads as plot-ink
+use Rattle.words.proofs.invert_ink.Reads as invert-ink
 
 on-determined : (κs : _) (a : _) (s s' : _) (r r' : _) → on.Post κs a r s → on.Post κs a r' s' → r ≡ r'
 on-determined κs a s s' r r' p q = p ∙ sym q
@@ -44,3 +45,6 @@ xor-ink-determined κs a s s' r r' p q = p ∙ sym q
 
 plot-ink-determined : (κs : _) (a : _) (s s' : _) (r r' : _) → plot-ink.Post κs a r s → plot-ink.Post κs a r' s' → r ≡ r'
 plot-ink-determined κs a s s' r r' p q = p ∙ sym q
+
+invert-ink-determined : (κs : _) (a : _) (s s' : _) (r r' : _) → invert-ink.Post κs a r s → invert-ink.Post κs a r' s' → r ≡ r'
+invert-ink-determined κs a s s' r r' p q = p ∙ sym q

@@ -71,7 +71,7 @@ mixed t j k w = cond t (solid j w) (bitXor w k)
 
 -- ---- the two masks of an ink
 
-keep-all : (f : Format) (w : ℕ) → w < range f → bitAnd w 4294967295 ≡ w
+pub keep-all : (f : Format) (w : ℕ) → w < range f → bitAnd w 4294967295 ≡ w
 keep-all f w l = and-mask w 32 ∙ omega (arith, range-u32 f)
 
 -- Flipping all of the highest byte where it is free sets it.

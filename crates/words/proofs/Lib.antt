@@ -1,5 +1,6 @@
 pub mod Determined
 pub mod Formats
+pub mod Invert
 pub mod Laws
 pub mod Reading
 pub mod Table

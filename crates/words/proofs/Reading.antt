@@ -42,7 +42,7 @@ read-channels argb w = record { a = omega arith; r = omega arith; g = omega arit
 read-channels abgr w = record { a = omega arith; r = omega arith; g = omega arith; b = omega arith }
 read-channels none w = record { a = omega arith; r = omega arith; g = omega arith; b = omega arith }
 
-low-bytes : (w : ℕ) → w / 65536 % 256 * 65536 + w / 256 % 256 * 256 + w % 256 ≡ w % 16777216
+pub low-bytes : (w : ℕ) → w / 65536 % 256 * 65536 + w / 256 % 256 * 256 + w % 256 ≡ w % 16777216
 low-bytes w = omega arith
 
 -- Storing what was read gives the word, without what reading ignores.

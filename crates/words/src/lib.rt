@@ -5,6 +5,7 @@ ghost use Rattle.words.specs.Format.{formatOf, bytesPerPixel, rgb332, rg
 ghost use Rattle.words.specs.Word.{fromColor, toColor};
 ghost use Rattle.words.specs.Table.{fives, sixes, back332, through332, through565};
 ghost use Rattle.words.specs.Ink.{bare, ink, inked, xorInk, plotInk};
+ghost use Rattle.words.specs.Invert.{invertInk};
 
 mod colors;
 mod levels;
@@ -242,6 +243,38 @@ pub fn plot_ink(format: u32, xor: bool, color: Color) -> Ink
         };
     }
     xor_ink(format, color)
+}
+
+// The ink of inversion.
+pub fn invert_ink(format: u32) -> Ink
+    ensures { λ r. ⌜ r ≡ invertInk (formatOf format) ⌝ }
+{
+    match format {
+        0 => Ink {
+            keep: 0xFFFF_FFFF,
+            flip: 0xFF,
+        },
+        1 => Ink {
+            keep: 0xFFFF_FFFF,
+            flip: 0xFFFF,
+        },
+        2 => Ink {
+            keep: 0xFF_FFFF,
+            flip: 0xFF_FFFF,
+        },
+        3 => Ink {
+            keep: 0xFFFF_FFFF,
+            flip: 0xFF_FFFF,
+        },
+        4 => Ink {
+            keep: 0xFFFF_FFFF,
+            flip: 0xFF_FFFF,
+        },
+        _ => Ink {
+            keep: 0xFFFF_FFFF,
+            flip: 0,
+        },
+    }
 }
 
 impl Ink {
