@@ -1,0 +1,5 @@
+pub mod Determined
+pub mod Examples
+pub mod Held
+pub mod Laws
+pub mod Opaque
