@@ -1,20 +1,17 @@
--- The laws of blending: a word keeps to its format's range, an ink does what drawing with XOR on does, drawings with XOR on
--- commute and settle when made twice as plots do, and reading through the tables is reading by the rule.
-use mathlib.Core.Path.{_≡_, ap}
+-- The laws of blending: a word keeps to its format's range, an ink does what drawing with XOR on does, and drawings with XOR on
+-- commute and settle when made twice as plots do.
+use mathlib.Core.Path.{_≡_}
 use mathlib.Core.Bool.{Bool, true, false, cond, _||_}
-use mathlib.Core.List.{List}
 use Prim.Native.Nat.{ℕ, _*_, _≤_, _<_}
 use native.Mathlib.Nat.{mul-le-mul}
 use native.Mathlib.Omega.{arith}
 use lib.Dec.{eqb}
 use lib.Ieee.Casts.{toUnsigned-lt}
 use Rattle.words.specs.declared.Color.{Color}
-use Rattle.words.specs.Format.{Format, rgb332, rgb565, range}
-use Rattle.words.specs.Word.{color, fromColor, toColor}
+use Rattle.words.specs.Format.{Format, range}
+use Rattle.words.specs.Word.{color, toColor}
 use Rattle.words.specs.Ink.{inked, plotInk, settles}
-use Rattle.words.specs.Table.{fives, sixes, back332, through332, through565}
 use Rattle.words.proofs.Laws.{Channels, fits, ink-is, plot-keeps, plot-swap, plot-twice}
-use Rattle.words.proofs.Table.{read-332, read-565}
 use Rattle.blending.specs.Blend.{part, scaled, mix, over, blendWord}
 
 -- ---- channels stay bytes
@@ -69,14 +66,3 @@ blend-swap f c d w hc hd = plot-swap f (scaled c) (scaled d) w (scaled-channels 
 pub blend-twice : (f : Format) (c : Color) (w : ℕ) → Channels c → blendWord f true c (blendWord f true c w) ≡ settles f (scaled c) w
 unfolding blendWord
 blend-twice f c w h = plot-twice f (scaled c) w (scaled-channels c h)
-
--- ---- XOR off, through the tables
-
-pub blend-332 : {t : List ℕ} (c : Color) (w : ℕ) → t ≡ back332 → fromColor rgb332 (over c (through332 t w)) ≡ blendWord rgb332 false c w
-unfolding blendWord
-blend-332 c w e = ap (λ (b : Color). fromColor rgb332 (over c b)) (read-332 w e)
-
-pub blend-565 :
-    {s t : List ℕ} (c : Color) (w : ℕ) → s ≡ fives → t ≡ sixes → fromColor rgb565 (over c (through565 s t w)) ≡ blendWord rgb565 false c w
-unfolding blendWord
-blend-565 c w d e = ap (λ (b : Color). fromColor rgb565 (over c b)) (read-565 w d e)

@@ -95,3 +95,8 @@ pub mixed-over :
     r ≡ mixed p q (c .r) (b .r) → g ≡ mixed p q (c .g) (b .g) → l ≡ mixed p q (c .b) (b .b) → color 255 r g l ≡ over c b
 unfolding mixed mix
 mixed-over c b hc hb ep eq er eg el = rw (er, eg, el, ep, eq) (sym (over-mixed c b hc hb))
+
+-- A background enters by its three channels alone.
+pub over-read : (c b : Color) {x y z : ℕ} → x ≡ b .r → y ≡ b .g → z ≡ b .b → over c (color 255 x y z) ≡ over c b
+unfolding over
+over-read c b p q s = rw (p, q, s)

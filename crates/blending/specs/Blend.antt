@@ -1,6 +1,6 @@
 -- What drawing a colour makes of the word stored.
 use mathlib.Core.Bool.{Bool, true, false, cond, _||_}
-use Prim.Native.Nat.{ℕ, _+_, _*_, _/_}
+use Prim.Native.Nat.{ℕ, _+_, _*_, _/_, _%_}
 use lib.Dec.{eqb}
 use lib.IntN.{pos}
 use lib.Ieee.{Float, binary32, ofInt, add, sub, mul, div}
@@ -41,3 +41,7 @@ over c b = cond (eqb (c .a) 255) c (color 255 (mix (c .a) (c .r) (b .r)) (mix (c
 unfoldable pub blendWord : Format → Bool → Color → ℕ → ℕ
 blendWord f true c w = plotWord f true (scaled c) w
 blendWord f false c w = fromColor f (over c (toColor f w))
+
+-- A word of four bytes with its highest byte given.
+unfoldable pub topped : ℕ → ℕ → ℕ
+topped t w = t * 16777216 + w % 16777216

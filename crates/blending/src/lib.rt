@@ -2,11 +2,10 @@
 ghost use mathlib.Core.Path.{_≡_};
 ghost use mathlib.Core.Bool.{true, false};
 ghost use Prim.Native.Nat.{_%_, _<_};
-ghost use Rattle.words.specs.Format.{formatOf, rgb332, rgb565, rgb8, argb, abgr};
-ghost use Rattle.words.specs.Word.{fromColor, toColor};
+ghost use Rattle.words.specs.Format.{formatOf, rgb332, rgb565, argb, abgr};
+ghost use Rattle.words.specs.Word.{toColor, level5, level6};
 ghost use Rattle.words.specs.Ink.{plotInk};
-ghost use Rattle.words.specs.Table.{through332, through565};
-ghost use Rattle.blending.specs.Blend.{part, scaled, factor, others, over, blendWord};
+ghost use Rattle.blending.specs.Blend.{part, scaled, factor, others, blendWord, topped};
 ghost use Rattle.blending.specs.Inner.{mixed, Laid};
 
 mod cut;
@@ -88,52 +87,57 @@ fn lay(source: u32, r: u32, g: u32, b: u32) -> Mixed
     }
 }
 
-fn wide(x: u8) -> u32
-    ensures { λ r. ⌜ (r ≡ x) × (r < 256) ⌝ }
+// An ARGB word over a word of 332.
+pub fn blend332(source: u32, raw: u32) -> u32
+    ensures { λ r. ⌜ r ≡ blendWord rgb332 false (toColor argb source) raw ⌝ }
 {
-    x as u32
-}
-
-// An ARGB word over a word of 332, which is read through a table of ARGB words.
-pub fn blend332(source: u32, raw: u32, table: &[u32; 256]) -> u32
-    ensures { λ r. ⌜ r ≡ fromColor rgb332 (over (toColor argb source) (through332 (now (table .entry)) raw)) ⌝ }
-{
-    let old = table[(raw % 256) as usize];
-    let m = lay(source, old / 65536, old / 256, old);
+    let m = lay(source, raw / 32 % 8 * 36, raw / 4 % 8 * 36, raw % 4 * 85);
     (m.r * 7 + 127) / 255 * 32 + (m.g * 7 + 127) / 255 * 4 + (m.b * 3 + 127) / 255
 }
 
-// An ARGB word over a word of 565, which is read through tables of levels.
-pub fn blend565(source: u32, raw: u32, fives: &[u8; 32], sixes: &[u8; 64]) -> u32
-    ensures { λ r. ⌜ r ≡ fromColor rgb565 (over (toColor argb source) (through565 (now (fives .entry)) (now (sixes .entry)) raw)) ⌝ }
+// The levels of 5 and of 6 bits, without a table, which would keep a loop from taking several pixels at a time.
+fn level5_of(v: u32) -> u32
+    requires { ⌜ v < 32 ⌝ }
+    ensures { λ r. ⌜ r ≡ level5 v ⌝ }
 {
-    let r = wide(fives[(raw / 2048 % 32) as usize]);
-    let g = wide(sixes[(raw / 32 % 64) as usize]);
-    let b = wide(fives[(raw % 32) as usize]);
+    (v * 527 + 23) / 64
+}
+
+fn level6_of(v: u32) -> u32
+    requires { ⌜ v < 64 ⌝ }
+    ensures { λ r. ⌜ r ≡ level6 v ⌝ }
+{
+    (v * 259 + 33) / 64
+}
+
+// An ARGB word over a word of 565.
+pub fn blend565(source: u32, raw: u32) -> u32
+    ensures { λ r. ⌜ r ≡ blendWord rgb565 false (toColor argb source) raw ⌝ }
+{
+    let r = level5_of(raw / 2048 % 32);
+    let g = level6_of(raw / 32 % 64);
+    let b = level5_of(raw % 32);
     let m = lay(source, r, g, b);
     m.r / 8 * 2048 + m.g / 4 * 32 + m.b / 8
 }
 
-// An ARGB word over a word of Rgb8.
-pub fn blend_rgb8(source: u32, raw: u32) -> u32
-    ensures { λ r. ⌜ r ≡ blendWord rgb8 false (toColor argb source) raw ⌝ }
+// An ARGB word over a word of Rgb8, where top is 0, or of ARGB, where it is 255. A top byte that the compiler does not
+// know leaves a loop's words whole.
+pub fn blend_rgb(source: u32, raw: u32, top: u8) -> u32
+    ensures { λ r. ⌜ r ≡ topped top (blendWord argb false (toColor argb source) raw) ⌝ }
 {
-    let m = lay(source, raw / 65536, raw / 256, raw);
-    m.r * 65536 + m.g * 256 + m.b
+    let high = top as u32 * 16777216;
+    let old = raw | high;
+    let m = lay(source, old / 65536, old / 256, old);
+    high + (m.r * 65536 + m.g * 256 + m.b)
 }
 
-// An ARGB word over another.
-pub fn blend_argb(source: u32, raw: u32) -> u32
-    ensures { λ r. ⌜ r ≡ blendWord argb false (toColor argb source) raw ⌝ }
+// The same over a word of ABGR, where top is 255.
+pub fn blend_bgr(source: u32, raw: u32, top: u8) -> u32
+    ensures { λ r. ⌜ r ≡ topped top (blendWord abgr false (toColor argb source) raw) ⌝ }
 {
-    let m = lay(source, raw / 65536, raw / 256, raw);
-    4278190080 + m.r * 65536 + m.g * 256 + m.b
-}
-
-// An ARGB word over a word of ABGR.
-pub fn blend_abgr(source: u32, raw: u32) -> u32
-    ensures { λ r. ⌜ r ≡ blendWord abgr false (toColor argb source) raw ⌝ }
-{
-    let m = lay(source, raw, raw / 256, raw / 65536);
-    4278190080 + m.b * 65536 + m.g * 256 + m.r
+    let high = top as u32 * 16777216;
+    let old = raw | high;
+    let m = lay(source, old, old / 256, old / 65536);
+    high + (m.b * 65536 + m.g * 256 + m.r)
 }

@@ -1,21 +1,23 @@
 -- `blend332` meets its contract: the channels laid are those of the word read.
-use mathlib.Core.Path.{ap}
-use borrow.Author.Needs.{needs}
-use Rattle.words.specs.Format.{rgb332}
+use mathlib.Core.Path.{ap, _∙_}
+use native.Mathlib.Nat.{mod-eq-of-lt}
+use Rattle.words.specs.Format.{rgb332, argb}
 use Rattle.words.specs.Word.{fromColor, toColor}
-use Rattle.words.specs.Table.{through332}
-use Rattle.blending.specs.Blend.{over}
+use Rattle.words.proofs.Reading.{read-channels}
+use Rattle.blending.specs.Blend.{blendWord}
+use Rattle.blending.proofs.Opaque.{over-read}
+use borrow.Author.Needs.{needs}
 use Rattle.blending.proofs.blend332.Statement.{statement}
 use Rattle.blending.proofs.blend332.Tie as tie
 
-cast-old : tie.Need-cast-old
-cast-old c = search needs
+mul-lay : tie.Need-mul-lay
+mul-lay c = search needs
 
-mul-old : tie.Need-mul-old
-mul-old c = search needs
+mul-lay-2 : tie.Need-mul-lay-2
+mul-lay-2 c = search needs
 
-element-copy-out-old : tie.Need-element-copy-out-old
-element-copy-out-old c = search needs
+mul-lay-3 : tie.Need-mul-lay-3
+mul-lay-3 c = search needs
 
 lay-requires : tie.Need-lay-requires
 lay-requires c κs = search needs
@@ -51,16 +53,21 @@ add-result-5 : tie.Need-add-result-5
 add-result-5 c = search needs
 
 returns : tie.Need-returns
-unfolding through332 over fromColor toColor
-returns c = ap (fromColor rgb332) (c .before .before .before .lay .ensures .is)
+unfolding blendWord fromColor toColor
+returns c =
+    let w = c .before .before .before .before .args .raw in
+    let h = read-channels rgb332 w in
+    ap (fromColor rgb332)
+    (c .before .before .before .lay .ensures .is
+    ∙ over-read (toColor argb (c .before .before .before .before .args .source)) (toColor rgb332 w) (mod-eq-of-lt (h .r)) (mod-eq-of-lt (h .g)) (mod-eq-of-lt (h .b)))
 
 pub blend332-spec : {M : Type 1} → statement M
 blend332-spec =
     tie.close
     (tie.spec
-    cast-old
-    mul-old
-    element-copy-out-old
+    mul-lay
+    mul-lay-2
+    mul-lay-3
     lay-requires
     mul-result
     add-result

@@ -1,49 +1,24 @@
--- `blend565` meets its contract: the channels laid are those of the word read, which are bytes.
+-- `blend565` meets its contract: the channels laid are those of the word read.
 use mathlib.Core.Path.{_≡_, ap, _∙_}
 use Prim.Native.Nat.{ℕ, _%_, _<_}
 use native.Mathlib.Omega.{arith}
-use borrow.Author.Needs.{needs}
 use Rattle.words.specs.Format.{rgb565, argb}
-use Rattle.words.specs.Word.{fromColor, toColor, color}
-use Rattle.words.specs.Table.{through565}
-use Rattle.blending.specs.Blend.{over}
+use Rattle.words.specs.Word.{fromColor, toColor}
+use Rattle.words.proofs.Reading.{read-channels}
+use Rattle.blending.specs.Blend.{blendWord}
+use Rattle.blending.proofs.Opaque.{over-read}
+use borrow.Author.Needs.{needs}
 use Rattle.blending.proofs.blend565.Statement.{statement}
 use Rattle.blending.proofs.blend565.Tie as tie
 
-byte : {x y : ℕ} → (x ≡ y) × (x < 256) → x % 256 ≡ y
-byte h = omega (arith, h .0, h .1)
+level5-of-requires : tie.Need-level5-of-requires
+level5-of-requires c κs = search needs
 
-bytes :
-    {x y z r g b : ℕ} → (x ≡ r) × (x < 256) → (y ≡ g) × (y < 256) → (z ≡ b) × (z < 256) →
-    color 255 (x % 256) (y % 256) (z % 256) ≡ color 255 r g b
-bytes p q s = rw (byte p, byte q, byte s)
+level6-of-requires : tie.Need-level6-of-requires
+level6-of-requires c κs = search needs
 
-cast-wide : tie.Need-cast-wide
-cast-wide c = search needs
-
-element-copy-out-wide : tie.Need-element-copy-out-wide
-element-copy-out-wide c = search needs
-
-wide-requires : tie.Need-wide-requires
-wide-requires c κs = search needs
-
-cast-wide-2 : tie.Need-cast-wide-2
-cast-wide-2 c = search needs
-
-element-copy-out-wide-2 : tie.Need-element-copy-out-wide-2
-element-copy-out-wide-2 c = search needs
-
-wide-requires-2 : tie.Need-wide-requires-2
-wide-requires-2 c κs = search needs
-
-cast-wide-3 : tie.Need-cast-wide-3
-cast-wide-3 c = search needs
-
-element-copy-out-wide-3 : tie.Need-element-copy-out-wide-3
-element-copy-out-wide-3 c = search needs
-
-wide-requires-3 : tie.Need-wide-requires-3
-wide-requires-3 c κs = search needs
+level5-of-requires-2 : tie.Need-level5-of-requires-2
+level5-of-requires-2 c κs = search needs
 
 lay-requires : tie.Need-lay-requires
 lay-requires c κs = search needs
@@ -60,27 +35,28 @@ add-result c = search needs
 add-result-2 : tie.Need-add-result-2
 add-result-2 c = search needs
 
+byte : {x v : ℕ} → x ≡ v → v < 256 → x % 256 ≡ v
+byte e h = omega arith
+
 returns : tie.Need-returns
-unfolding through565 fromColor
+unfolding blendWord fromColor toColor
 returns c =
+    let w = c .before .before .before .before .before .before .before .args .raw in
+    let h = read-channels rgb565 w in
     ap (fromColor rgb565)
     (c .before .before .before .lay .ensures .is
-    ∙ ap (over (toColor argb (c .before .before .before .before .before .before .before .before .before .before .args .source)))
-    (bytes (c .before .before .before .before .before .before .before .before .wide .ensures) (c .before .before .before .before .before .before .wide2 .ensures) (c .before .before .before .before .wide3 .ensures)))
+    ∙ over-read (toColor argb (c .before .before .before .before .before .before .before .args .source)) (toColor rgb565 w)
+    (byte (c .before .before .before .before .before .before .level5-of .ensures) (h .r))
+    (byte (c .before .before .before .before .before .level6-of .ensures) (h .g))
+    (byte (c .before .before .before .before .level5-of2 .ensures) (h .b)))
 
 pub blend565-spec : {M : Type 1} → statement M
 blend565-spec =
     tie.close
     (tie.spec
-    cast-wide
-    element-copy-out-wide
-    wide-requires
-    cast-wide-2
-    element-copy-out-wide-2
-    wide-requires-2
-    cast-wide-3
-    element-copy-out-wide-3
-    wide-requires-3
+    level5-of-requires
+    level6-of-requires
+    level5-of-requires-2
     lay-requires
     mul-result
     mul-result-2
