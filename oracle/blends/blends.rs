@@ -13,11 +13,12 @@ use canvas::{
 unsafe extern "C" {
     safe fn blending_332(source: u32, raw: u32) -> u32;
     safe fn blending_565(source: u32, raw: u32) -> u32;
-    safe fn blending_rgb(source: u32, raw: u32, top: u8) -> u32;
-    safe fn blending_bgr(source: u32, raw: u32, top: u8) -> u32;
+    safe fn blending_rgb(source: u32, raw: u32, set: u32) -> u32;
+    safe fn blending_bgr(source: u32, raw: u32, set: u32) -> u32;
     safe fn blending_ink(format: u32, source: u32, keep: &mut u32, flip: &mut u32);
 }
 
+const ALPHA: u32 = 0xFF00_0000;
 const SIDE: u32 = 256;
 const PIXELS: usize = (SIDE * SIDE) as usize;
 
@@ -54,8 +55,8 @@ fn channels() -> u64 {
     for a in 0..=255u32 {
         for c in 0..=255u32 {
             for bg in 0..=255u32 {
-                let ours = blending_rgb(a << 24 | c * 0x10101, bg * 0x10101, 255);
-                let rust = 0xFF00_0000 | channel(a as u8, c as u8, bg as u8) as u32 * 0x10101;
+                let ours = blending_rgb(a << 24 | c * 0x10101, bg * 0x10101, ALPHA);
+                let rust = ALPHA | channel(a as u8, c as u8, bg as u8) as u32 * 0x10101;
                 tally.look("a channel", [a, c, bg], ours, rust);
             }
         }
@@ -79,8 +80,8 @@ fn ours(format: u32, xor: bool, source: u32, raw: u32) -> u32 {
         0 => blending_332(source, raw),
         1 => blending_565(source, raw),
         2 => blending_rgb(source, raw, 0),
-        3 => blending_rgb(source, raw, 255),
-        _ => blending_bgr(source, raw, 255),
+        3 => blending_rgb(source, raw, ALPHA),
+        _ => blending_bgr(source, raw, ALPHA),
     }
 }
 

@@ -4,7 +4,7 @@ ghost use mathlib.Core.Bool.{true, false};
 ghost use Rattle.words.specs.Format.{formatOf, rgb332, rgb565, argb, abgr};
 ghost use Rattle.words.specs.Word.{toColor};
 ghost use Rattle.words.specs.Ink.{plotInk};
-ghost use Rattle.blending.specs.Blend.{scaled, blendWord, topped};
+ghost use Rattle.blending.specs.Blend.{scaled, blendWord, setting};
 
 #[no_mangle]
 pub extern "C" fn blending_332(source: u32, raw: u32) -> u32
@@ -21,17 +21,17 @@ pub extern "C" fn blending_565(source: u32, raw: u32) -> u32
 }
 
 #[no_mangle]
-pub extern "C" fn blending_rgb(source: u32, raw: u32, top: u8) -> u32
-    ensures { λ r. ⌜ r ≡ topped top (blendWord argb false (toColor argb source) raw) ⌝ }
+pub extern "C" fn blending_rgb(source: u32, raw: u32, set: u32) -> u32
+    ensures { λ r. ⌜ r ≡ setting set (blendWord argb false (toColor argb source)) raw ⌝ }
 {
-    blending::blend_rgb(source, raw, top)
+    blending::blend_rgb(source, raw, set)
 }
 
 #[no_mangle]
-pub extern "C" fn blending_bgr(source: u32, raw: u32, top: u8) -> u32
-    ensures { λ r. ⌜ r ≡ topped top (blendWord abgr false (toColor argb source) raw) ⌝ }
+pub extern "C" fn blending_bgr(source: u32, raw: u32, set: u32) -> u32
+    ensures { λ r. ⌜ r ≡ setting set (blendWord abgr false (toColor argb source)) raw ⌝ }
 {
-    blending::blend_bgr(source, raw, top)
+    blending::blend_bgr(source, raw, set)
 }
 
 // The two masks of drawing an ARGB word with XOR on.

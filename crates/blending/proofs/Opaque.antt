@@ -97,6 +97,6 @@ unfolding mixed mix
 mixed-over c b hc hb ep eq er eg el = rw (er, eg, el, ep, eq) (sym (over-mixed c b hc hb))
 
 -- A background enters by its three channels alone.
-pub over-read : (c b : Color) {x y z : ℕ} → x ≡ b .r → y ≡ b .g → z ≡ b .b → over c (color 255 x y z) ≡ over c b
+pub over-read : (c b d : Color) → b .r ≡ d .r → b .g ≡ d .g → b .b ≡ d .b → over c b ≡ over c d
 unfolding over
-over-read c b p q s = rw (p, q, s)
+over-read c b d p q s = rw (p, q, s)

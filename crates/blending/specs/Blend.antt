@@ -2,6 +2,7 @@
 use mathlib.Core.Bool.{Bool, true, false, cond, _||_}
 use Prim.Native.Nat.{ℕ, _+_, _*_, _/_, _%_}
 use lib.Dec.{eqb}
+use lib.Bits.{bitOr}
 use lib.IntN.{pos}
 use lib.Ieee.{Float, binary32, ofInt, add, sub, mul, div}
 use Rattle.number.specs.Whole.{asU8}
@@ -42,6 +43,7 @@ unfoldable pub blendWord : Format → Bool → Color → ℕ → ℕ
 blendWord f true c w = plotWord f true (scaled c) w
 blendWord f false c w = fromColor f (over c (toColor f w))
 
--- A word of four bytes with its highest byte given.
-unfoldable pub topped : ℕ → ℕ → ℕ
-topped t w = t * 16777216 + w % 16777216
+-- What a rule makes of the three lower bytes, with bits set before and after it. With alpha's bits set, or none, this is a blend of
+-- ARGB and ABGR, or of Rgb8 (proofs/Tops).
+unfoldable pub setting : ℕ → (ℕ → ℕ) → ℕ → ℕ
+setting bits rule w = bitOr (rule (bitOr w bits) % 16777216) bits

@@ -5,7 +5,7 @@ ghost use Prim.Native.Nat.{_%_, _<_};
 ghost use Rattle.words.specs.Format.{formatOf, rgb332, rgb565, argb, abgr};
 ghost use Rattle.words.specs.Word.{toColor, level5, level6};
 ghost use Rattle.words.specs.Ink.{plotInk};
-ghost use Rattle.blending.specs.Blend.{part, scaled, factor, others, blendWord, topped};
+ghost use Rattle.blending.specs.Blend.{part, scaled, factor, others, blendWord, setting};
 ghost use Rattle.blending.specs.Inner.{mixed, Laid};
 
 mod cut;
@@ -121,23 +121,21 @@ pub fn blend565(source: u32, raw: u32) -> u32
     m.r / 8 * 2048 + m.g / 4 * 32 + m.b / 8
 }
 
-// An ARGB word over a word of Rgb8, where top is 0, or of ARGB, where it is 255. A top byte that the compiler does not
-// know leaves a loop's words whole.
-pub fn blend_rgb(source: u32, raw: u32, top: u8) -> u32
-    ensures { λ r. ⌜ r ≡ topped top (blendWord argb false (toColor argb source) raw) ⌝ }
+// An ARGB word over a word of Rgb8, with no bits set, or of ARGB, with alpha's bits set. Where the compiler does not
+// know these bits, it takes a loop's words whole, and several at a time.
+pub fn blend_rgb(source: u32, raw: u32, set: u32) -> u32
+    ensures { λ r. ⌜ r ≡ setting set (blendWord argb false (toColor argb source)) raw ⌝ }
 {
-    let high = top as u32 * 16777216;
-    let old = raw | high;
+    let old = raw | set;
     let m = lay(source, old / 65536, old / 256, old);
-    high + (m.r * 65536 + m.g * 256 + m.b)
+    (m.r * 65536 + m.g * 256 + m.b) | set
 }
 
-// The same over a word of ABGR, where top is 255.
-pub fn blend_bgr(source: u32, raw: u32, top: u8) -> u32
-    ensures { λ r. ⌜ r ≡ topped top (blendWord abgr false (toColor argb source) raw) ⌝ }
+// The same over a word of ABGR.
+pub fn blend_bgr(source: u32, raw: u32, set: u32) -> u32
+    ensures { λ r. ⌜ r ≡ setting set (blendWord abgr false (toColor argb source)) raw ⌝ }
 {
-    let high = top as u32 * 16777216;
-    let old = raw | high;
+    let old = raw | set;
     let m = lay(source, old, old / 256, old / 65536);
-    high + (m.b * 65536 + m.g * 256 + m.r)
+    (m.b * 65536 + m.g * 256 + m.r) | set
 }

@@ -59,7 +59,7 @@ returns c =
     let h = read-channels rgb332 w in
     ap (fromColor rgb332)
     (c .before .before .before .lay .ensures .is
-    ∙ over-read (toColor argb (c .before .before .before .before .args .source)) (toColor rgb332 w) (mod-eq-of-lt (h .r)) (mod-eq-of-lt (h .g)) (mod-eq-of-lt (h .b)))
+    ∙ over-read (toColor argb (c .before .before .before .before .args .source)) _ (toColor rgb332 w) (mod-eq-of-lt (h .r)) (mod-eq-of-lt (h .g)) (mod-eq-of-lt (h .b)))
 
 pub blend332-spec : {M : Type 1} → statement M
 blend332-spec =

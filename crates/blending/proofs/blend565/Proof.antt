@@ -45,7 +45,7 @@ returns c =
     let h = read-channels rgb565 w in
     ap (fromColor rgb565)
     (c .before .before .before .lay .ensures .is
-    ∙ over-read (toColor argb (c .before .before .before .before .before .before .before .args .source)) (toColor rgb565 w)
+    ∙ over-read (toColor argb (c .before .before .before .before .before .before .before .args .source)) _ (toColor rgb565 w)
     (byte (c .before .before .before .before .before .before .level5-of .ensures) (h .r))
     (byte (c .before .before .before .before .before .level6-of .ensures) (h .g))
     (byte (c .before .before .before .before .level5-of2 .ensures) (h .b)))

@@ -1,13 +1,15 @@
--- `blend_rgb` meets its contract: the highest byte does not enter the blend.
+-- `blend_rgb` meets its contract: the channels laid are those of the word read, under any highest byte.
+use mathlib.Core.Path.{ap, _∙_}
+use Prim.Native.Nat.{ℕ, _%_}
 use borrow.Author.Needs.{needs}
+use lib.Bits.{bitOr}
+use Rattle.words.specs.declared.Color.{Color}
 use Rattle.words.specs.Format.{argb}
-use Rattle.words.specs.Word.{toColor}
-use Rattle.blending.proofs.Tops.{low-kept, rgb-topped}
+use Rattle.words.specs.Word.{fromColor, toColor}
+use Rattle.blending.specs.Blend.{over, blendWord, setting}
+use Rattle.blending.proofs.Tops.{under}
 use Rattle.blending.proofs.blend_rgb.Statement.{statement}
 use Rattle.blending.proofs.blend_rgb.Tie as tie
-
-mul-high : tie.Need-mul-high
-mul-high c = search needs
 
 lay-requires : tie.Need-lay-requires
 lay-requires c κs = search needs
@@ -24,24 +26,13 @@ add-result c = search needs
 add-result-2 : tie.Need-add-result-2
 add-result-2 c = search needs
 
-add-result-3 : tie.Need-add-result-3
-add-result-3 c = search needs
-
 returns : tie.Need-returns
+unfolding setting blendWord over fromColor toColor
 returns c =
-    let a = c .before .before .before .before .args in
-    let m = c .before .before .before .lay .ensures in
-    rgb-topped (toColor argb (a .source)) (a .top) (a .raw) _ (low-kept (a .raw) (a .top)) (m .red) (m .green) (m .blue) (m .is)
+    let m = c .before .before .before .lay in
+    ap (λ (v : ℕ). bitOr v (c .before .before .before .before .args .set))
+    (under 255 (m .result .r) (m .result .g) (m .result .b) (m .ensures .red) (m .ensures .green) (m .ensures .blue) ∙ ap (λ (v : Color). fromColor argb v % 16777216) (m .ensures .is))
 
 pub blend-rgb-spec : {M : Type 1} → statement M
 blend-rgb-spec =
-    tie.close
-    (tie.spec
-    mul-high
-    lay-requires
-    mul-result
-    mul-result-2
-    add-result
-    add-result-2
-    add-result-3
-    returns)
+    tie.close (tie.spec lay-requires mul-result mul-result-2 add-result add-result-2 returns)
