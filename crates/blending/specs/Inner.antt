@@ -1,4 +1,5 @@
--- A float held to 0..255, what is mixed by two factors at hand, and an ARGB word over three channels. Only inner contracts cite these.
+-- A float held to 0..255, what is mixed by two factors at hand, an ARGB word over three channels, and a colour scaled at any alpha.
+-- Only inner contracts cite these.
 use mathlib.Core.Path.{_≡_}
 use mathlib.Core.Bool.{cond, false}
 use Prim.Native.Nat.{ℕ, _%_, _<_}
@@ -7,8 +8,9 @@ use lib.Ieee.{Float, fin, binary32, lt, add, mul}
 use Rattle.number.specs.Size.{plusZero}
 use Rattle.number.specs.Whole.{asU8}
 use Rattle.words.specs.Format.{argb}
+use Rattle.words.specs.declared.Color.{Color}
 use Rattle.words.specs.Word.{color, toColor}
-use Rattle.blending.specs.Blend.{channel, over}
+use Rattle.blending.specs.Blend.{part, channel, over}
 use Rattle.blending.specs.declared.Mixed.{Mixed}
 
 abbrev pub most : Float
@@ -29,3 +31,7 @@ pub record Laid (s x y z : ℕ) (m : Mixed) : Type 0 where
   pub red : m .r < 256
   pub green : m .g < 256
   pub blue : m .b < 256
+
+-- Each channel by alpha, whatever it is: nothing at 0, the colour's own at 255. Alpha itself is left out.
+unfoldable pub faint : Color → Color
+faint c = color 0 (part (c .a) (c .r)) (part (c .a) (c .g)) (part (c .a) (c .b))

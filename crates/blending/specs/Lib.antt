@@ -1,2 +1,3 @@
 pub mod Blend
 pub mod Inner
+pub mod Loops

@@ -9,11 +9,15 @@ ghost use Rattle.blending.specs.Blend.{part, scaled, factor, others, ble
 ghost use Rattle.blending.specs.Inner.{mixed, Laid};
 
 mod cut;
+mod flip;
+pub mod loops;
+mod over;
+mod read;
 
 use words::Color;
 use words::Ink;
 
-fn part_of(a: u8, c: u8) -> u8
+pub(crate) fn part_of(a: u8, c: u8) -> u8
     ensures { λ r. ⌜ r ≡ part a c ⌝ }
 {
     ((c as u32 * a as u32 + 127) / 255) as u8
@@ -96,14 +100,14 @@ pub fn blend332(source: u32, raw: u32) -> u32
 }
 
 // The levels of 5 and of 6 bits, without a table, which would keep a loop from taking several pixels at a time.
-fn level5_of(v: u32) -> u32
+pub(crate) fn level5_of(v: u32) -> u32
     requires { ⌜ v < 32 ⌝ }
     ensures { λ r. ⌜ r ≡ level5 v ⌝ }
 {
     (v * 527 + 23) / 64
 }
 
-fn level6_of(v: u32) -> u32
+pub(crate) fn level6_of(v: u32) -> u32
     requires { ⌜ v < 64 ⌝ }
     ensures { λ r. ⌜ r ≡ level6 v ⌝ }
 {
