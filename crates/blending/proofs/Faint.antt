@@ -1,7 +1,7 @@
 -- A colour scaled with no test of alpha: at 0 it flips nothing, at 255 it is the colour. So XOR needs no branch where alpha is not kept.
 use mathlib.Core.Path.{_≡_, refl, sym, ap, _∙_}
 use mathlib.Core.Bool.{Bool, true, false, cond, true≢false, _||_}
-use Prim.Native.Nat.{ℕ, zero, suc, _+_, _%_, _≤_, _<_}
+use Prim.Native.Nat.{ℕ, zero, suc, _+_, _*_, _%_, _≤_, _<_}
 use native.Mathlib.Nat.{mod-eq-of-lt}
 use native.Mathlib.Omega.{arith}
 use lib.Dec.{T, eqb, eqb→eq}
@@ -94,6 +94,14 @@ faint-solid f c w k h n =
     (ap (λ (x : ℕ). 4278190080 + x)
     (xor-mod w (fromColor f (bare (scaled c))) 24
     ∙ ap (bitXor (w % 16777216)) (mod-eq-of-lt (bare-fits f (scaled c) (scaled-channels c h)))))
+
+zero-top : (r g b : ℕ) → r * 65536 + g * 256 + b ≡ 0 * 16777216 + r * 65536 + g * 256 + b
+zero-top r g b = omega arith
+
+-- ARGB's bytes are where Rgb8 has them.
+pub as-rgb8 : (c : Color) → fromColor rgb8 (faint c) ≡ fromColor argb (faint c)
+unfolding faint fromColor
+as-rgb8 c = zero-top (part (c .a) (c .r)) (part (c .a) (c .g)) (part (c .a) (c .b))
 
 pub no-alpha : (n : ℕ) → n ≤ 2 → keepsAlpha (formatOf n) ≡ false
 unfolding keepsAlpha formatOf

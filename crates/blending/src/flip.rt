@@ -35,7 +35,7 @@ fn flip(format: u32, source: u32, raw: u32) -> u32
 fn flip_argb(source: u32, raw: u32) -> u32
     ensures { λ r. ⌜ r ≡ blendWord argb true (toColor argb source) raw ⌝ }
 {
-    let word = faint_word(3, source);
+    let word = faint_word(2, source);
     if source < 16777216 {
         return raw;
     }

@@ -7,7 +7,7 @@ use Rattle.words.specs.Format.{formatOf, argb, abgr}
 use Rattle.words.specs.Word.{toColor}
 use Rattle.words.specs.Ink.{keepsAlpha}
 use Rattle.words.proofs.Reading.{read-channels}
-use Rattle.blending.proofs.Faint.{keeps-at-0, faint-solid}
+use Rattle.blending.proofs.Faint.{keeps-at-0, faint-solid, as-rgb8}
 use borrow.Author.Needs.{needs}
 use Rattle.blending.proofs.flip.flip_argb.Statement.{statement}
 use Rattle.blending.proofs.flip.flip_argb.Tie as tie
@@ -28,7 +28,7 @@ returns-2 : tie.Need-returns-2
 unfolding formatOf toColor keepsAlpha
 returns-2 c =
     let a = c .before .before .args in
-    ap (λ (v : ℕ). 4278190080 + bitXor (a .raw) v % 16777216) (c .before .faint-word .ensures)
+    ap (λ (v : ℕ). 4278190080 + bitXor (a .raw) v % 16777216) (c .before .faint-word .ensures ∙ as-rgb8 (toColor argb (a .source)))
     ∙ faint-solid argb (toColor argb (a .source)) (a .raw) refl (read-channels argb (a .source)) (λ e. omega arith)
 
 pub flip-argb-spec : {M : Type 1} → statement M
