@@ -1,7 +1,7 @@
 -- The laws of runs of words, and the steps of a loop over one.
 use mathlib.Core.Path.{_≡_, refl, sym, ap, _∙_}
 use mathlib.Core.Bool.{Bool, true, false, not}
-use mathlib.Core.List.{List, [], _∷_, map}
+use mathlib.Core.List.{List, [], _∷_}
 use Prim.Native.Nat.{ℕ, zero, suc, _+_, _≤_, _<_, min}
 use native.Mathlib.Numerals.{add-one}
 use native.Mathlib.Omega.{arith}
@@ -9,9 +9,10 @@ use lib.Dec.{T, ltb, ltb→lt, nltb→le}
 use lib.ListN.{length, getD, take, set, length-set, length-map, length-take}
 use lib.Seq.{take-all}
 use Rattle.words.specs.Format.{Format, argb, range}
-use Rattle.words.specs.Word.{fromColor, toColor, seen}
-use Rattle.words.proofs.Reading.{read-store}
+use Rattle.words.specs.Word.{toColor, seen}
+use Rattle.words.proofs.Reading.{read-channels, read-store}
 use Rattle.blending.specs.Loops.{read, argbOf, pairwise, draw, blended}
+use Rattle.blending.proofs.Laws.{blend-keeps}
 
 -- ---- words beside others
 
@@ -35,6 +36,15 @@ module _ (rule : ℕ → ℕ → ℕ) where
   pairwise-past (c ∷ cs) [] i h = refl
   pairwise-past (c ∷ cs) (w ∷ ws) zero h = absurd (omega arith)
   pairwise-past (c ∷ cs) (w ∷ ws) (suc i) h = pairwise-past cs ws i (omega arith)
+
+  -- What holds of every word before, and is kept by the rule, holds after.
+  pub pairwise-keeps :
+      (P : ℕ → Type 0) → ((c w : ℕ) → P w → P (rule c w)) → (cs ws : List ℕ) → ((i : ℕ) → P (getD ws i 0)) → (i : ℕ) → P (getD (pairwise rule cs ws) i 0)
+  unfolding pairwise
+  pairwise-keeps P k [] ws h i = h i
+  pairwise-keeps P k (c ∷ cs) [] h i = h i
+  pairwise-keeps P k (c ∷ cs) (w ∷ ws) h zero = k c w (h 0)
+  pairwise-keeps P k (c ∷ cs) (w ∷ ws) h (suc i) = pairwise-keeps P k cs ws (λ (j : ℕ). h (suc j)) i
 
   one-more :
       (cs ws : List ℕ) (i : ℕ) → i < length cs → i < length ws →
@@ -122,3 +132,10 @@ blended-at f x cs ws i h k = pairwise-at (draw f x) cs ws i h k
 pub blended-past : (f : Format) (x : Bool) (cs ws : List ℕ) (i : ℕ) → length cs ≤ i → getD (blended f x cs ws) i 0 ≡ getD ws i 0
 unfolding blended
 blended-past f x cs ws i h = pairwise-past (draw f x) cs ws i h
+
+-- Words keep to their format's range.
+pub blended-keeps :
+    (f : Format) (x : Bool) (cs ws : List ℕ) → ((i : ℕ) → getD ws i 0 < range f) → (i : ℕ) → getD (blended f x cs ws) i 0 < range f
+unfolding blended
+blended-keeps f x cs ws =
+    pairwise-keeps (draw f x) (λ (w : ℕ). w < range f) (λ c w l. blend-keeps f x (toColor argb c) w (read-channels argb c) l) cs ws

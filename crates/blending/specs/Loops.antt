@@ -19,7 +19,7 @@ pairwise rule [] ws = ws
 pairwise rule (c ∷ cs) [] = []
 pairwise rule (c ∷ cs) (w ∷ ws) = rule c w ∷ pairwise rule cs ws
 
--- Each ARGB word drawn over the word beside it.
+-- "`draw` blends instead": each ARGB word over the word beside it.
 abbrev pub draw : Format → Bool → ℕ → ℕ → ℕ
 draw f x c w = blendWord f x (toColor argb c) w
 

@@ -11,7 +11,7 @@ use crate::loops::shorter;
 use crate::part_of;
 use words::Color;
 
-// The bits that a colour flips where alpha is not kept; none at alpha 0.
+// The word of a colour scaled whatever its alpha is, with alpha itself left out: 0 where it is 0.
 fn faint_word(format: u32, source: u32) -> u32
     ensures { λ r. ⌜ r ≡ fromColor (formatOf format) (faint (toColor argb source)) ⌝ }
 {
@@ -25,6 +25,7 @@ fn faint_word(format: u32, source: u32) -> u32
     words::from_color(format, color)
 }
 
+// Where alpha is not kept.
 fn flip(format: u32, source: u32, raw: u32) -> u32
     requires { ⌜ format ≤ 2 ⌝ }
     ensures { λ r. ⌜ r ≡ blendWord (formatOf format) true (toColor argb source) raw ⌝ }
@@ -32,6 +33,7 @@ fn flip(format: u32, source: u32, raw: u32) -> u32
     raw ^ faint_word(format, source)
 }
 
+// Rgb8's word, where the bytes stand alike: ARGB's is taken for a turn of bytes, which costs a quarter more.
 fn flip_argb(source: u32, raw: u32) -> u32
     ensures { λ r. ⌜ r ≡ blendWord argb true (toColor argb source) raw ⌝ }
 {

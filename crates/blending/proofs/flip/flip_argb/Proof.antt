@@ -3,7 +3,7 @@ use mathlib.Core.Path.{refl, ap, _∙_}
 use Prim.Native.Nat.{ℕ, _+_, _%_}
 use native.Mathlib.Omega.{arith}
 use lib.Bits.{bitXor}
-use Rattle.words.specs.Format.{formatOf, argb, abgr}
+use Rattle.words.specs.Format.{formatOf, argb}
 use Rattle.words.specs.Word.{toColor}
 use Rattle.words.specs.Ink.{keepsAlpha}
 use Rattle.words.proofs.Reading.{read-channels}
