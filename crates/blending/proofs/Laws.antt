@@ -1,0 +1,68 @@
+-- The laws of blending: a word keeps to its format's range, an ink does what drawing with XOR on does, and drawings with XOR on
+-- commute and settle when made twice as plots do.
+use mathlib.Core.Path.{_≡_}
+use mathlib.Core.Bool.{Bool, true, false, cond, _||_}
+use Prim.Native.Nat.{ℕ, _*_, _≤_, _<_}
+use native.Mathlib.Nat.{mul-le-mul}
+use native.Mathlib.Omega.{arith}
+use lib.Dec.{eqb}
+use lib.Ieee.Casts.{toUnsigned-lt}
+use Rattle.words.specs.declared.Color.{Color}
+use Rattle.words.specs.Format.{Format, range}
+use Rattle.words.specs.Word.{color, toColor}
+use Rattle.words.specs.Ink.{inked, plotInk, settles}
+use Rattle.words.proofs.Laws.{Channels, fits, ink-is, plot-keeps, plot-swap, plot-twice}
+use Rattle.blending.specs.Blend.{part, scaled, mix, over, blendWord}
+
+-- ---- channels stay bytes
+
+pub product : (c a : ℕ) → c < 256 → a < 256 → c * a ≤ 65025
+product c a p q =
+    let h : c ≤ 255 = omega arith in
+    let k : a ≤ 255 = omega arith in
+    mul-le-mul h k
+
+part-lt : (a c : ℕ) → a < 256 → c < 256 → part a c < 256
+part-lt a c ha hc = omega (arith, product c a hc ha)
+
+mix-lt : (a c bg : ℕ) → mix a c bg < 256
+unfolding mix
+mix-lt a c bg = toUnsigned-lt 8 _
+
+pub scaled-channels : (c : Color) → Channels c → Channels (scaled c)
+unfolding scaled
+scaled-channels c h = go (eqb (c .a) 0 || eqb (c .a) 255)
+  where
+    go : (t : Bool) → Channels (cond t c (color (c .a) (part (c .a) (c .r)) (part (c .a) (c .g)) (part (c .a) (c .b))))
+    go true = h
+    go false =
+        record { a = h .a; r = part-lt (c .a) (c .r) (h .a) (h .r); g = part-lt (c .a) (c .g) (h .a) (h .g); b = part-lt (c .a) (c .b) (h .a) (h .b) }
+
+pub over-channels : (c b : Color) → Channels c → Channels (over c b)
+unfolding over
+over-channels c b h = go (eqb (c .a) 255)
+  where
+    go : (t : Bool) → Channels (cond t c (color 255 (mix (c .a) (c .r) (b .r)) (mix (c .a) (c .g) (b .g)) (mix (c .a) (c .b) (b .b))))
+    go true = h
+    go false = record { a = omega arith; r = mix-lt (c .a) (c .r) (b .r); g = mix-lt (c .a) (c .g) (b .g); b = mix-lt (c .a) (c .b) (b .b) }
+
+pub blend-keeps : (f : Format) (x : Bool) (c : Color) (w : ℕ) → Channels c → w < range f → blendWord f x c w < range f
+unfolding blendWord
+blend-keeps f true c w h l = plot-keeps f true (scaled c) w (scaled-channels c h) l
+blend-keeps f false c w h l = fits f (over c (toColor f w)) (over-channels c (toColor f w) h)
+
+-- ---- XOR on
+
+pub blend-ink-is : (f : Format) (c : Color) (w : ℕ) → Channels c → w < range f → inked (plotInk f true (scaled c)) w ≡ blendWord f true c w
+unfolding blendWord
+blend-ink-is f c w h l = ink-is f true (scaled c) w (scaled-channels c h) l
+
+pub blend-swap :
+    (f : Format) (c d : Color) (w : ℕ) → Channels c → Channels d →
+    blendWord f true c (blendWord f true d w) ≡ blendWord f true d (blendWord f true c w)
+unfolding blendWord
+blend-swap f c d w hc hd = plot-swap f (scaled c) (scaled d) w (scaled-channels c hc) (scaled-channels d hd)
+
+pub blend-twice : (f : Format) (c : Color) (w : ℕ) → Channels c → blendWord f true c (blendWord f true c w) ≡ settles f (scaled c) w
+unfolding blendWord
+blend-twice f c w h = plot-twice f (scaled c) w (scaled-channels c h)

@@ -1,0 +1,90 @@
+-- `flips_rgb8` makes one word after another.
+use mathlib.Core.Bool.{true}
+use Prim.Native.Nat.{_-_}
+use native.Mathlib.Omega.{arith}
+use borrow.Author.Needs.{needs}
+use Rattle.words.specs.Format.{formatOf, rgb8}
+use Rattle.blending.specs.Loops.{draw, blended}
+use Rattle.blending.proofs.Runs.{Made, make-first, make-more, made-all}
+use Rattle.blending.proofs.flip.flips_rgb8.Statement.{statement}
+use Rattle.blending.proofs.flip.flips_rgb8.Tie as tie
+
+abbrev Inv-loop : tie.InvT-loop
+Inv-loop colors words₀ n i₀ words i = Made (draw rgb8 true) colors words₀ n words i
+
+abbrev μ-loop : tie.MeasureT-loop
+μ-loop colors words₀ n i₀ words i = n - i
+
+shorter-requires : tie.Need-shorter-requires Inv-loop μ-loop
+shorter-requires c κs = search needs
+
+loop-holds : tie.Need-loop-holds Inv-loop μ-loop
+loop-holds c = make-first (draw rgb8 true) (c .before .before .before .args .colors .now) (c .before .before .before .args .words .now) (c .shorter .result)
+
+mul-flip : tie.Need-mul-flip Inv-loop μ-loop
+mul-flip c = omega arith
+
+shared-slice-read-flip : tie.Need-shared-slice-read-flip Inv-loop μ-loop
+shared-slice-read-flip c = omega arith
+
+mul-flip-2 : tie.Need-mul-flip-2 Inv-loop μ-loop
+mul-flip-2 c = omega arith
+
+slice-read-flip : tie.Need-slice-read-flip Inv-loop μ-loop
+slice-read-flip c = omega arith
+
+flip-requires : tie.Need-flip-requires Inv-loop μ-loop
+flip-requires c κs = search needs
+
+mul-words : tie.Need-mul-words Inv-loop μ-loop
+mul-words c = omega arith
+
+slice-write-words : tie.Need-slice-write-words Inv-loop μ-loop
+slice-write-words c = omega arith
+
+add-i : tie.Need-add-i Inv-loop μ-loop
+add-i c = omega arith
+
+loop-less : tie.Need-loop-less Inv-loop μ-loop
+loop-less c = omega arith
+
+loop-again : tie.Need-loop-again Inv-loop μ-loop
+unfolding formatOf
+loop-again c =
+    let a = c .before .before .before .before .before .before .before .before .args in
+    let n = c .before .before .before .before .before .shorter in
+    let l = c .before .before .before .before .loop in
+    make-more (draw rgb8 true) (a .colors .now) (a .words .now) (n .result) (l .words) (l .i) _ (omega arith) (omega arith) (omega arith) (l .inv)
+    (c .flip .ensures)
+
+same-length : tie.Need-same-length Inv-loop μ-loop
+same-length c = omega arith
+
+returns : tie.Need-returns Inv-loop μ-loop
+unfolding blended
+returns c =
+    let a = c .before .before .before .before .before .args in
+    let n = c .before .before .shorter in
+    let l = c .before .loop in
+    made-all (draw rgb8 true) (a .colors .now) (a .words .now) (n .result) (l .words) (l .i) (n .ensures) (omega arith) (l .inv)
+
+pub flips-rgb8-spec : {M : Type 1} → statement M
+flips-rgb8-spec =
+    tie.close
+    (tie.spec
+    Inv-loop
+    μ-loop
+    shorter-requires
+    loop-holds
+    mul-flip
+    shared-slice-read-flip
+    mul-flip-2
+    slice-read-flip
+    flip-requires
+    mul-words
+    slice-write-words
+    add-i
+    loop-less
+    loop-again
+    same-length
+    returns)
