@@ -1,0 +1,17 @@
+-- From the answer on a file to C's numbers.
+use mathlib.Core.Path.{_≡_, sym, ap, _∙_}
+use Prim.Native.Nat.{ℕ}
+use Rattle.lbmp.specs.declared.Image.{Image}
+use Rattle.lbmp.specs.declared.Judged.{Judged}
+use Rattle.lbmp.specs.declared.Judged.the-variants.{Refused, Sound}
+use Rattle.lbmp.specs.declared.Refusal.{Refusal}
+use Rattle.lbmp.specs.Faults.{number}
+use Rattle.lbmp.specs.Call.{reading, reads}
+
+pub told-refused : (j : Judged) (r : Refusal) (n : ℕ) → j ≡ Refused r → n ≡ number r → reading n 0 0 0 ≡ reads j
+unfolding reads
+told-refused j r n e g = ap (λ (k : ℕ). reading k 0 0 0) g ∙ sym (ap reads e)
+
+pub told-sound : (j : Judged) (i : Image) → j ≡ Sound i → reading 0 (i .width) (i .height) (i .clear) ≡ reads j
+unfolding reads
+told-sound j i e = sym (ap reads e)
