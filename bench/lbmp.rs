@@ -16,7 +16,7 @@ mod canvas;
 use std::hint::black_box;
 use std::time::{Duration, Instant};
 
-const SIDES: [(u32, u32); 2] = [(240, 320), (16, 16)];
+const SIDES: [(u32, u32); 4] = [(240, 320), (16, 16), (5, 7), (1, 1)];
 const TYPES: [u32; 3] = [2, 8, 16];
 
 const SAMPLES: u32 = 150;
