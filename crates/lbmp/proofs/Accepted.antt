@@ -1,22 +1,19 @@
 -- Both directions: a file that is refused nothing has every property that the tests look for, and a file that has them is decoded.
-use mathlib.Core.Path.{_≡_, refl, sym, ap, _∙_}
-use mathlib.Core.Bool.{Bool, true, false}
+use mathlib.Core.Path.{_≡_, refl}
 use mathlib.Core.List.{List, _++_}
 use Prim.Native.Nat.{ℕ, _+_, _*_, _<_, _≤_}
 use native.Mathlib.Omega.{arith}
 use borrow.Author.Tests.{ltb-false, le-ltb}
 use lib.Dec.{ltb}
 use lib.ListN.{length, drop}
-use Rattle.lbmp.specs.declared.faults.Verdict.{Verdict}
-use Rattle.lbmp.specs.declared.faults.Verdict.the-variants.{Sound, Faulty}
-use Rattle.lbmp.specs.declared.header.Header.{Header}
+use Rattle.lbmp.specs.declared.faults.Verdict.the-variants.{Sound}
 use Rattle.lbmp.specs.declared.header.Kind.{Kind}
 use Rattle.lbmp.specs.declared.header.Kind.the-variants.{Greys, Rgb332, Rgb565, Unknown}
 use Rattle.lbmp.specs.File.{headerOf, kindOf, pixelSize, maskSize}
-use Rattle.lbmp.specs.Faults.{number, invalid, beyond, shortFault, areaFault, twiceFault, kindFault, orElse, fieldFault, planesFault, bytesFault, headerVerdict, verdict, roomFault}
+use Rattle.lbmp.specs.Faults.{invalid, beyond, shortFault, areaFault, twiceFault, kindFault, orElse, planesFault, bytesFault, headerVerdict, verdict, roomFault}
 use Rattle.lbmp.specs.Image.{pixels, image}
 use Rattle.lbmp.specs.Call.{readingOf, outcome, decoding}
-use Rattle.lbmp.specs.Walk.{Fair, Whole}
+use Rattle.lbmp.specs.Walk.{Whole}
 use Rattle.lbmp.proofs.faults.Verdicts.{both-sound, valid, fields-fine, whole-file, long-enough}
 
 -- What 01 asks of a file, each as a plain fact.

@@ -6,7 +6,6 @@ use denote.Ref.{now}
 use native.Mathlib.Omega.{arith}
 use Rattle.lbmp.specs.declared.Refusal.{Refusal}
 use Rattle.lbmp.specs.declared.Refusal.the-variants.{Invalid, BadType, Room}
-use Rattle.lbmp.specs.declared.Image.{Image}
 use Rattle.lbmp.specs.declared.Judged.{Judged}
 use Rattle.lbmp.specs.declared.Judged.the-variants.{Refused, Sound}
 use Rattle.lbmp.specs.Faults.{number}

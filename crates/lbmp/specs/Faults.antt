@@ -71,13 +71,13 @@ planesFault Unknown s = Sound
 unfoldable pub bytesFault : Header → ℕ → Verdict
 bytesFault h n = invalid (ltb n (24 + pixelSize h + maskSize h))
 
--- "In order: .."
+-- "In order: .." Neither "sides above 32,767" nor "bytes after the image" are looked for.
 unfoldable pub headerVerdict : Header → ℕ → Verdict
 headerVerdict h n =
     orElse (areaFault h)
     (orElse (twiceFault (kindOf (h .kind)) (h .width * h .height))
-    (orElse (kindFault (kindOf (h .kind)))
-    (orElse (fieldFault h) (orElse (planesFault (kindOf (h .kind)) (h .size)) (bytesFault h n)))))
+    (orElse (kindFault (kindOf (h .kind))) (orElse (fieldFault h)
+    (orElse (planesFault (kindOf (h .kind)) (h .size)) (bytesFault h n)))))
 
 unfoldable pub verdict : List ℕ → Verdict
 verdict f = orElse (shortFault (length f)) (headerVerdict (headerOf f) (length f))

@@ -7,7 +7,6 @@ use Rattle.words.specs.Format.{rgb332, rgb565, argb}
 use Rattle.words.specs.Word.{color, fromColor, toColor}
 use Rattle.words.specs.Ink.{bare}
 use Rattle.words.specs.Table.{run}
-use Rattle.lbmp.specs.declared.header.Header.{Header}
 use Rattle.lbmp.specs.declared.header.Kind.{Kind}
 use Rattle.lbmp.specs.declared.header.Kind.the-variants.{Greys, Rgb332, Rgb565, Unknown}
 use Rattle.lbmp.specs.Plane.{planeAt, planeSize, total}

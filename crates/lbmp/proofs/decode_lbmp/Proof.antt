@@ -1,58 +1,42 @@
 -- A refusal is judging's, or ROOM; else the words are written.
-use mathlib.Core.Path.{sym, ap, _∙_}
 use native.Mathlib.Omega.{arith}
+use borrow.Author.Needs.{needs}
 use Rattle.lbmp.proofs.planes.Sizes.{product-fits}
 use Rattle.lbmp.proofs.faults.Verdicts.{whole-file}
 use Rattle.lbmp.proofs.Answers.{is-sound, its-pixels, decode-refused, decode-room, decode-sound}
-use borrow.Author.Needs.{needs}
 use Rattle.lbmp.proofs.decode_lbmp.Statement.{statement}
 use Rattle.lbmp.proofs.decode_lbmp.Tie as tie
-use Rattle.lbmp.proofs.decode_lbmp.Reads as reads
-use Rattle.lbmp.proofs.decode_lbmp.Lts as lts
-use Rattle.lbmp.proofs.judge.Reads as judge-reads
-use Rattle.lbmp.proofs.paint.write_words.Reads as write-words-reads
 
--- src/lib.rt:67:9
 judge-requires : tie.Need-judge-requires
 judge-requires c κs = search needs
 
--- src/lib.rt:68:23
 enum-known-j : tie.Need-enum-known-j
 enum-known-j c = search needs
 
--- src/lib.rt:69:9
 enum-told : tie.Need-enum-told
 enum-told c = search needs
 
--- src/lib.rt:69:9
 returns : tie.Need-returns
 returns c = decode-refused (c .before .before .before .before .before .args .file .now) (c .before .before .before .before .before .args .out .now) (c .before .before .judge .result) _ (c .before .before .judge .ensures) (c .enum-told .given .1)
 
--- src/lib.rt:71:29
 cast-if1 : tie.Need-cast-if1
 cast-if1 c = search needs
 
--- src/lib.rt:71:50
 cast-if1-2 : tie.Need-cast-if1-2
 cast-if1-2 c = search needs
 
--- src/lib.rt:71:29
 mul-if1 : tie.Need-mul-if1
 mul-if1 c = record { fits = product-fits (c .before .before .before .j .given .0 .0 .width) (c .before .before .before .j .given .0 .0 .height) (omega arith) (omega arith) }
 
--- src/lib.rt:72:9
 returns-2 : tie.Need-returns-2
 returns-2 c = let s = is-sound (c .before .before .before .before .before .before .before .before .before .args .file .now) (c .before .before .before .before .before .before .judge .result) (c .before .before .before .before .j .given .0 .0) (c .before .before .before .before .before .before .judge .ensures) (c .before .before .before .before .j .given .1) in decode-room (c .before .before .before .before .before .before .before .before .before .args .file .now) (c .before .before .before .before .before .before .before .before .before .args .out .now) (s .0) (omega (arith, its-pixels (c .before .before .before .before .before .before .before .before .before .args .file .now) (c .before .before .before .before .j .given .0 .0) (s .1), c .if1 .taken))
 
--- src/lib.rt:74:5
 write-words-requires : tie.Need-write-words-requires
 write-words-requires c κs = let s = is-sound (c .before .before .before .before .before .before .before .before .before .before .args .file .now) (c .before .before .before .before .before .before .before .judge .result) (c .before .before .before .before .before .j .given .0 .0) (c .before .before .before .before .before .before .before .judge .ensures) (c .before .before .before .before .before .j .given .1) in (whole-file (c .before .before .before .before .before .before .before .before .before .before .args .file .now) (s .0), omega (arith, its-pixels (c .before .before .before .before .before .before .before .before .before .before .args .file .now) (c .before .before .before .before .before .j .given .0 .0) (s .1), c .before .if1 .left))
 
--- src/lib.rt:64:1
 same-length : tie.Need-same-length
 same-length c = search needs
 
--- src/lib.rt:64:1
 returns-3 : tie.Need-returns-3
 returns-3 c = let s = is-sound (c .before .before .before .before .before .before .before .before .before .before .before .before .before .args .file .now) (c .before .before .before .before .before .before .before .before .before .before .judge .result) (c .before .before .before .before .before .before .before .before .j .given .0 .0) (c .before .before .before .before .before .before .before .before .before .before .judge .ensures) (c .before .before .before .before .before .before .before .before .j .given .1) in decode-sound (c .before .before .before .before .before .before .before .before .before .before .before .before .before .args .file .now) (c .before .before .before .before .before .before .before .before .before .before .before .before .before .args .out .now) _ (c .before .before .before .before .before .before .before .before .j .given .0 .0) (s .0) (s .1) (omega (arith, its-pixels (c .before .before .before .before .before .before .before .before .before .before .before .before .before .args .file .now) (c .before .before .before .before .before .before .before .before .j .given .0 .0) (s .1), c .before .before .before .before .if1 .left)) (c .before .before .write-words .ensures)
 

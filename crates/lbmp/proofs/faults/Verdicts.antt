@@ -1,30 +1,32 @@
 -- The first of two faults; and a file with none is whole, as a whole file has none.
 use mathlib.Core.Path.{_≡_, refl, sym, ap, _∙_}
-use mathlib.Core.Bool.{Bool, true, false, not, cond}
+use mathlib.Core.Bool.{Bool, true, false}
 use mathlib.Core.List.{List}
-use Prim.Native.Nat.{ℕ, _+_, _*_, _≤_, _<_}
+use Prim.Native.Nat.{ℕ, _*_, _≤_, _<_}
 use native.Mathlib.Omega.{arith}
 use borrow.Author.Tests.{ltb-false, eqb-true, eqb-false, le-ltb, lt-ltb, eq-eqb, ne-eqb, not-false}
-use lib.Dec.{ltb, eqb}
+use lib.Dec.{ltb}
 use lib.ListN.{length}
 use Rattle.lbmp.specs.declared.Refusal.{Refusal}
-use Rattle.lbmp.specs.declared.Refusal.the-variants.{Invalid, BadType, Room}
+use Rattle.lbmp.specs.declared.Refusal.the-variants.{Invalid, BadType}
 use Rattle.lbmp.specs.declared.faults.Verdict.{Verdict}
 use Rattle.lbmp.specs.declared.faults.Verdict.the-variants.{Sound, Faulty}
 use Rattle.lbmp.specs.declared.header.Header.{Header}
 use Rattle.lbmp.specs.declared.header.Kind.{Kind}
-use Rattle.lbmp.specs.declared.header.Kind.the-variants.{Greys, Rgb332, Rgb565, Unknown}
-use Rattle.lbmp.specs.File.{headerOf, kindOf, expectedSize, imageSize, pixelSize, maskSize}
-use Rattle.lbmp.specs.Faults.{invalid, shortFault, areaFault, twiceFault, kindFault, orElse, fieldFault, planesFault, bytesFault, headerVerdict, verdict}
-use Rattle.lbmp.specs.Walk.{Fair, Whole}
+use Rattle.lbmp.specs.declared.header.Kind.the-variants.{Unknown}
+use Rattle.lbmp.specs.File.{headerOf, kindOf, expectedSize}
+use Rattle.lbmp.specs.Faults.{invalid, shortFault, areaFault, twiceFault, kindFault, orElse, fieldFault, bytesFault, headerVerdict, verdict}
+use Rattle.lbmp.specs.Walk.{Whole}
 
-pub or-faulty : (f d : Verdict) (r : Refusal) → f ≡ Faulty r → f ≡ orElse f d
-unfolding orElse
-or-faulty f d r e = rw e refl
+-- A fault that was asked for and found is the first of two; one that was not found leaves the other.
+module _ {v f : Verdict} (d : Verdict) (e : v ≡ f) where
+  pub faulty : {r : Refusal} → v ≡ Faulty r → v ≡ orElse f d
+  unfolding orElse
+  faulty g = rw (sym e, g) refl
 
-pub or-sound : (f d : Verdict) → f ≡ Sound → d ≡ orElse f d
-unfolding orElse
-or-sound f d e = rw e refl
+  pub passed : v ≡ Sound → d ≡ orElse f d
+  unfolding orElse
+  passed g = rw (sym e, g) refl
 
 pub both-sound : (f d : Verdict) → orElse f d ≡ Sound → (f ≡ Sound) × (d ≡ Sound)
 unfolding orElse

@@ -1,48 +1,35 @@
 -- A refusal is the first fault; else the mask's ones are counted.
 use mathlib.Core.Path.{sym, ap, _∙_}
 use lib.ListN.{length}
+use borrow.Author.Needs.{needs}
 use Rattle.lbmp.specs.File.{maskSize}
 use Rattle.lbmp.proofs.faults.Verdicts.{long-enough, whole-file, same-whole}
 use Rattle.lbmp.proofs.header.Parts.{mask-length}
 use Rattle.lbmp.proofs.Answers.{refuses, accepts}
-use borrow.Author.Needs.{needs}
 use Rattle.lbmp.proofs.judge.Statement.{statement}
 use Rattle.lbmp.proofs.judge.Tie as tie
-use Rattle.lbmp.proofs.judge.Reads as reads
-use Rattle.lbmp.proofs.judge.Lts as lts
-use Rattle.lbmp.proofs.faults.verdict_of.Reads as verdict-of-reads
-use Rattle.lbmp.proofs.header.mask_bytes.Reads as mask-bytes-reads
-use Rattle.lbmp.proofs.header.read_header.Reads as read-header-reads
-use Rattle.lbmp.proofs.planes.clear_of.Reads as clear-of-reads
 
--- src/lib.rt:50:9
 verdict-of-requires : tie.Need-verdict-of-requires
 verdict-of-requires c κs = search needs
 
--- src/lib.rt:51:28
 enum-known-v : tie.Need-enum-known-v
 enum-known-v c = search needs
 
--- src/lib.rt:52:9
 returns : tie.Need-returns
 returns c = refuses (c .before .before .before .before .before .args .file .now) (c .before .before .before .verdict-of .result) _ (c .before .before .before .verdict-of .ensures) (c .before .v .given .1)
 
 enum-told : tie.Need-enum-told
 enum-told c = search needs
 
--- src/lib.rt:54:9
 read-header-requires : tie.Need-read-header-requires
 read-header-requires c κs = long-enough (c .before .before .before .before .args .file .now) (sym (c .before .before .verdict-of .ensures) ∙ c .enum-told .given .1)
 
--- src/lib.rt:55:34
 mask-bytes-requires : tie.Need-mask-bytes-requires
 mask-bytes-requires c κs = (c .read-header .ensures, same-whole (c .read-header .ensures) (whole-file (c .before .before .before .before .before .args .file .now) (sym (c .before .before .before .verdict-of .ensures) ∙ c .before .enum-told .given .1)))
 
--- src/lib.rt:55:9
 clear-of-requires : tie.Need-clear-of-requires
 clear-of-requires c κs = (ap maskSize (c .before .read-header .ensures) ∙ sym (mask-length (c .before .before .before .before .before .before .args .file .now) (whole-file (c .before .before .before .before .before .before .args .file .now) (sym (c .before .before .before .before .verdict-of .ensures) ∙ c .before .before .enum-told .given .1))) ∙ sym (ap length (c .mask-bytes .ensures)), same-whole (c .before .read-header .ensures) (whole-file (c .before .before .before .before .before .before .args .file .now) (sym (c .before .before .before .before .verdict-of .ensures) ∙ c .before .before .enum-told .given .1)) .fair .few)
 
--- src/lib.rt:47:1
 returns-2 : tie.Need-returns-2
 returns-2 c = accepts (c .before .before .before .before .before .before .before .args .file .now) (c .before .before .before .before .before .verdict-of .result) (c .before .before .read-header .result) _ (c .clear-of .result) (c .before .before .before .before .before .verdict-of .ensures) (c .before .before .before .enum-told .given .1) (c .before .before .read-header .ensures) (c .before .mask-bytes .ensures) (c .clear-of .ensures)
 

@@ -1,7 +1,7 @@
 -- The two walks leave the words of the image, and after them what was there.
 use mathlib.Core.Path.{_≡_, refl, sym, ap, ap₂, _∙_}
 use mathlib.Core.List.{List, [], _++_}
-use Prim.Native.Nat.{ℕ, zero, suc, _+_, _-_, _*_, _/_, _%_, _<_, _≤_}
+use Prim.Native.Nat.{ℕ, zero, suc, _+_, _-_, _*_, _/_, _%_, _≤_}
 use native.Mathlib.Omega.{arith}
 use lib.ListN.{length, getD, take, drop}
 use lib.Seq.{take-all, length-take-le, drop-at}
@@ -16,7 +16,7 @@ use Rattle.lbmp.specs.declared.header.Header.{Header}
 use Rattle.lbmp.specs.declared.header.Kind.{Kind}
 use Rattle.lbmp.specs.declared.header.Kind.the-variants.{Greys, Rgb332, Rgb565, Unknown}
 use Rattle.lbmp.specs.Plane.{planeAt, planeSize}
-use Rattle.lbmp.specs.File.{u16At, headerOf, kindOf, expectedSize, imageSize, pixelSize, maskSize, pixelBytes, maskBytes}
+use Rattle.lbmp.specs.File.{u16At, headerOf, kindOf, expectedSize, imageSize, pixelSize, pixelBytes, maskBytes}
 use Rattle.lbmp.specs.Image.{grey, greyColor, greyAt, at332, at565, colorAt, masked, wordUnder, wordAt, pixels, image}
 use Rattle.lbmp.specs.Walk.{swept, painted, veiled, veil, Fair}
 use Rattle.lbmp.proofs.planes.Bits.{no-bit}

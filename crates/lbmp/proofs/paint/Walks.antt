@@ -1,13 +1,13 @@
 -- A walk over words goes on from where it came to, and what it leaves is the image's words with the rest after them.
-use mathlib.Core.Path.{_≡_, refl, sym, ap, ap₂, _∙_}
-use mathlib.Core.List.{List, [], _∷_, _++_}
+use mathlib.Core.Path.{_≡_, refl, sym, ap, _∙_}
+use mathlib.Core.List.{List, _++_}
 use Prim.Native.Nat.{ℕ, zero, suc, _+_, _-_, _*_, _<_, _≤_}
 use native.Mathlib.Omega.{arith}
 use mathlib.Core.Logic.{⊎-elim}
 use native.Mathlib.Nat.{eq-zero-or-pos, eq-or-lt-of-le, le-of-suc-le-suc, zero-add, add-zero, add-suc, add-mul, one-mul, zero-mul, mul-comm}
 use native.Mathlib.Numerals.{add-one}
 use lib.ListN.{length, getD, set, drop, length-set, length-append, length-drop, List·getD-append}
-use lib.Seq.{getD-set-same, getD-set-other, getD-append-add, getD-drop, ext-getD, drop-at}
+use lib.Seq.{getD-set-same, getD-set-other, getD-append-add, getD-drop, ext-getD}
 use Rattle.words.specs.Table.{run}
 use Rattle.words.proofs.Table.{run-at}
 use Rattle.lbmp.specs.Walk.{swept}

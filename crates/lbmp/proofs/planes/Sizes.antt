@@ -1,9 +1,9 @@
 -- How large planes and parts are.
-use mathlib.Core.Path.{_≡_, refl, _∙_}
+use mathlib.Core.Path.{_≡_, refl}
 use mathlib.Core.Bool.{Bool, true, false, cond}
 use Prim.Native.Nat.{ℕ, _+_, _*_, _/_, _%_, _^_, _<_, _≤_}
 use native.Mathlib.Omega.{arith}
-use native.Mathlib.Nat.{mul-le-mul, mul-le-mul-right, mul-comm, le-trans, suc-mul, add-mul, one-mul}
+use native.Mathlib.Nat.{mul-le-mul, mul-le-mul-right, mul-comm, add-mul, one-mul}
 use borrow.Author.Tests.{eq-eqb, ne-eqb}
 use lib.Dec.{eqb}
 use lib.Pow.{pow-pos, pow-mono}
@@ -42,6 +42,17 @@ unfolding planeSize
 plane-row w h y l =
     let m : (y / 8 + 1) * w ≤ (h + 7) / 8 * w = mul-le-mul-right w (omega arith) in
     omega (arith, add-mul (y / 8) 1 w, one-mul w)
+
+-- The byte of a pixel stands in its plane.
+pub plane-inside : (w h x y : ℕ) → x < w → y < h → y / 8 * w + x < planeSize w h
+plane-inside w h x y lx ly = omega (arith, plane-row w h y ly)
+
+pub expected-le : (k : Kind) (w h : ℕ) → expectedSize k w h ≤ 2 * (w * h)
+unfolding expectedSize
+expected-le Greys w h = omega (arith, plane-le w h)
+expected-le Rgb332 w h = omega arith
+expected-le Rgb565 w h = omega arith
+expected-le Unknown w h = omega arith
 
 pub image-le : (k : Kind) (s : ℕ) → imageSize k s ≤ 2 * s
 unfolding imageSize

@@ -1,35 +1,27 @@
 -- The number of each refusal.
 use mathlib.Core.Path.{refl}
-use Rattle.lbmp.specs.Faults.{number}
 use borrow.Author.Needs.{needs}
+use Rattle.lbmp.specs.Faults.{number}
 use Rattle.lbmp.proofs.Refusal.number.Statement.{statement}
 use Rattle.lbmp.proofs.Refusal.number.Tie as tie
-use Rattle.lbmp.proofs.Refusal.number.Reads as reads
-use Rattle.lbmp.proofs.Refusal.number.Lts as lts
 
--- src/lib.rt:39:33
 enum-told : tie.Need-enum-told
 enum-told c = search needs
 
--- src/lib.rt:40:33
 enum-told-2 : tie.Need-enum-told-2
 enum-told-2 c = search needs
 
--- src/lib.rt:41:30
 enum-told-3 : tie.Need-enum-told-3
 enum-told-3 c = search needs
 
--- src/lib.rt:35:5
 returns : tie.Need-returns
 unfolding number
 returns c = rw (c .enum-told .given .1) refl
 
--- src/lib.rt:35:5
 returns-2 : tie.Need-returns-2
 unfolding number
 returns-2 c = rw (c .enum-told2 .given .1) refl
 
--- src/lib.rt:35:5
 returns-3 : tie.Need-returns-3
 unfolding number
 returns-3 c = rw (c .enum-told3 .given .1) refl

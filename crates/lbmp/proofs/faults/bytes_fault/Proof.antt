@@ -1,37 +1,27 @@
 -- The test of the definition.
 use mathlib.Core.Path.{refl}
 use borrow.Author.Tests.{lt-ltb, le-ltb}
-use Rattle.lbmp.specs.Faults.{bytesFault}
 use borrow.Author.Needs.{needs}
+use Rattle.lbmp.specs.Faults.{bytesFault}
 use Rattle.lbmp.proofs.faults.bytes_fault.Statement.{statement}
 use Rattle.lbmp.proofs.faults.bytes_fault.Tie as tie
-use Rattle.lbmp.proofs.faults.bytes_fault.Reads as reads
-use Rattle.lbmp.proofs.faults.bytes_fault.Lts as lts
-use Rattle.lbmp.proofs.header.mask_size.Reads as mask-size-reads
-use Rattle.lbmp.proofs.header.pixel_size.Reads as pixel-size-reads
 
--- src/faults.rt:92:17
 pixel-size-requires : tie.Need-pixel-size-requires
 pixel-size-requires c κs = search needs
 
--- src/faults.rt:92:12
 add-if1 : tie.Need-add-if1
 add-if1 c = search needs
 
--- src/faults.rt:92:48
 mask-size-requires : tie.Need-mask-size-requires
 mask-size-requires c κs = search needs
 
--- src/faults.rt:92:12
 add-if1-2 : tie.Need-add-if1-2
 add-if1-2 c = search needs
 
--- src/faults.rt:93:9
 returns : tie.Need-returns
 unfolding bytesFault
 returns c = rw (← c .before .before .pixel-size .ensures .0, ← c .before .mask-size .ensures .0, lt-ltb _ _ (c .if1 .taken)) refl
 
--- src/faults.rt:88:1
 returns-2 : tie.Need-returns-2
 unfolding bytesFault
 returns-2 c = rw (← c .before .before .pixel-size .ensures .0, ← c .before .mask-size .ensures .0, le-ltb _ _ (c .if1 .left)) refl

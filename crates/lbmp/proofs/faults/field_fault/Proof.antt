@@ -1,48 +1,35 @@
 -- The tests of the definition, one after the other.
-use mathlib.Core.Path.{sym}
-use Rattle.lbmp.proofs.faults.Verdicts.{size-other, mask-other, fields-fine, expected-is}
-use mathlib.Core.Path.{refl, _∙_}
-use borrow.Author.Tests.{lt-ltb, le-ltb, eq-eqb, ne-eqb}
-use Rattle.lbmp.specs.Faults.{fieldFault, orElse}
+use mathlib.Core.Path.{sym, refl, _∙_}
+use borrow.Author.Tests.{eq-eqb, ne-eqb}
 use borrow.Author.Needs.{needs}
+use Rattle.lbmp.specs.Faults.{fieldFault, orElse}
+use Rattle.lbmp.proofs.faults.Verdicts.{size-other, mask-other, fields-fine, expected-is}
 use Rattle.lbmp.proofs.faults.field_fault.Statement.{statement}
 use Rattle.lbmp.proofs.faults.field_fault.Tie as tie
-use Rattle.lbmp.proofs.faults.field_fault.Reads as reads
-use Rattle.lbmp.proofs.faults.field_fault.Lts as lts
-use Rattle.lbmp.proofs.header.expected_size.Reads as expected-size-reads
-use Rattle.lbmp.proofs.header.kind_of.Reads as kind-of-reads
 
--- src/faults.rt:58:9
 returns : tie.Need-returns
 unfolding fieldFault orElse
 returns c = rw (eq-eqb _ _ (c .if1 .taken)) refl
 
--- src/faults.rt:61:9
 returns-2 : tie.Need-returns-2
 unfolding fieldFault orElse
 returns-2 c = rw (ne-eqb _ _ (c .before .before .if1 .left), eq-eqb _ _ (c .if2 .taken)) refl
 
--- src/faults.rt:63:8
 cast-if3 : tie.Need-cast-if3
 cast-if3 c = search needs
 
--- src/faults.rt:63:54
 kind-of-requires : tie.Need-kind-of-requires
 kind-of-requires c κs = search needs
 
--- src/faults.rt:63:25
 expected-size-requires : tie.Need-expected-size-requires
 expected-size-requires c κs = search needs
 
--- src/faults.rt:64:9
 returns-3 : tie.Need-returns-3
 returns-3 c = size-other (c .before .before .before .before .before .before .before .before .args .h) (c .before .before .before .before .before .before .if1 .left) (c .before .before .before .before .if2 .left) (λ q. c .if3 .taken (q ∙ sym (expected-is (c .before .before .before .before .before .before .before .before .args .h) (c .before .before .kind-of .result) (c .before .expected-size .result) (c .before .expected-size .ensures) (c .before .before .kind-of .ensures))))
 
--- src/faults.rt:67:9
 returns-4 : tie.Need-returns-4
 returns-4 c = mask-other (c .before .before .before .before .before .before .before .before .before .before .args .h) (c .before .before .before .before .before .before .before .before .if1 .left) (c .before .before .before .before .before .before .if2 .left) (c .before .before .if3 .left ∙ expected-is (c .before .before .before .before .before .before .before .before .before .before .args .h) (c .before .before .before .before .kind-of .result) (c .before .before .before .expected-size .result) (c .before .before .before .expected-size .ensures) (c .before .before .before .before .kind-of .ensures)) (c .if4 .taken)
 
--- src/faults.rt:53:1
 returns-5 : tie.Need-returns-5
 returns-5 c = fields-fine (c .before .before .before .before .before .before .before .before .before .before .args .h) (c .before .before .before .before .before .before .before .before .if1 .left) (c .before .before .before .before .before .before .if2 .left) (c .before .before .if3 .left ∙ expected-is (c .before .before .before .before .before .before .before .before .before .before .args .h) (c .before .before .before .before .kind-of .result) (c .before .before .before .expected-size .result) (c .before .before .before .expected-size .ensures) (c .before .before .before .before .kind-of .ensures)) (c .if4 .left)
 

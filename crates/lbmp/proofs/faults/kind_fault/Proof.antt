@@ -1,44 +1,34 @@
 -- By the types.
 use mathlib.Core.Path.{refl}
-use Rattle.lbmp.specs.Faults.{kindFault}
 use borrow.Author.Needs.{needs}
+use Rattle.lbmp.specs.Faults.{kindFault}
 use Rattle.lbmp.proofs.faults.kind_fault.Statement.{statement}
 use Rattle.lbmp.proofs.faults.kind_fault.Tie as tie
-use Rattle.lbmp.proofs.faults.kind_fault.Reads as reads
-use Rattle.lbmp.proofs.faults.kind_fault.Lts as lts
 
--- src/faults.rt:46:24
 enum-told : tie.Need-enum-told
 enum-told c = search needs
 
--- src/faults.rt:47:25
 enum-told-2 : tie.Need-enum-told-2
 enum-told-2 c = search needs
 
--- src/faults.rt:48:25
 enum-told-3 : tie.Need-enum-told-3
 enum-told-3 c = search needs
 
--- src/faults.rt:49:42
 enum-told-4 : tie.Need-enum-told-4
 enum-told-4 c = search needs
 
--- src/faults.rt:42:1
 returns : tie.Need-returns
 unfolding kindFault
 returns c = rw (c .enum-told .given .1) refl
 
--- src/faults.rt:42:1
 returns-2 : tie.Need-returns-2
 unfolding kindFault
 returns-2 c = rw (c .enum-told2 .given .1) refl
 
--- src/faults.rt:42:1
 returns-3 : tie.Need-returns-3
 unfolding kindFault
 returns-3 c = rw (c .enum-told3 .given .1) refl
 
--- src/faults.rt:42:1
 returns-4 : tie.Need-returns-4
 unfolding kindFault
 returns-4 c = rw (c .enum-told4 .given .1) refl

@@ -1,49 +1,38 @@
 -- By the types.
-use native.Mathlib.Omega.{arith}
 use mathlib.Core.Path.{refl}
-use Rattle.lbmp.specs.File.{imageSize}
+use native.Mathlib.Omega.{arith}
 use borrow.Author.Needs.{needs}
+use Rattle.lbmp.specs.File.{imageSize}
 use Rattle.lbmp.proofs.header.image_size.Statement.{statement}
 use Rattle.lbmp.proofs.header.image_size.Tie as tie
-use Rattle.lbmp.proofs.header.image_size.Reads as reads
-use Rattle.lbmp.proofs.header.image_size.Lts as lts
 
--- src/header.rt:98:28
 enum-told : tie.Need-enum-told
 enum-told c = search needs
 
--- src/header.rt:98:24
 mul-result : tie.Need-mul-result
 mul-result c = search needs
 
--- src/header.rt:99:25
 enum-told-2 : tie.Need-enum-told-2
 enum-told-2 c = search needs
 
--- src/header.rt:100:25
 enum-told-3 : tie.Need-enum-told-3
 enum-told-3 c = search needs
 
--- src/header.rt:101:26
 enum-told-4 : tie.Need-enum-told-4
 enum-told-4 c = search needs
 
--- src/header.rt:94:1
 returns : tie.Need-returns
 unfolding imageSize
 returns c = (rw (c .enum-told .given .1) refl, omega arith)
 
--- src/header.rt:94:1
 returns-2 : tie.Need-returns-2
 unfolding imageSize
 returns-2 c = (rw (c .enum-told2 .given .1) refl, omega arith)
 
--- src/header.rt:94:1
 returns-3 : tie.Need-returns-3
 unfolding imageSize
 returns-3 c = (rw (c .enum-told3 .given .1) refl, omega arith)
 
--- src/header.rt:94:1
 returns-4 : tie.Need-returns-4
 unfolding imageSize
 returns-4 c = (rw (c .enum-told4 .given .1) refl, omega arith)

@@ -4,25 +4,19 @@ use borrow.Author.Tests.{ne-eqb}
 use Rattle.lbmp.specs.File.{kindOf}
 use Rattle.lbmp.proofs.header.kind_of.Statement.{statement}
 use Rattle.lbmp.proofs.header.kind_of.Tie as tie
-use Rattle.lbmp.proofs.header.kind_of.Reads as reads
-use Rattle.lbmp.proofs.header.kind_of.Lts as lts
 
--- src/header.rt:63:1
 returns : tie.Need-returns
 unfolding kindOf
 returns c = rw (c .match .keys1) refl
 
--- src/header.rt:63:1
 returns-2 : tie.Need-returns-2
 unfolding kindOf
 returns-2 c = rw (c .match .keys2) refl
 
--- src/header.rt:63:1
 returns-3 : tie.Need-returns-3
 unfolding kindOf
 returns-3 c = rw (c .match .keys3) refl
 
--- src/header.rt:63:1
 returns-4 : tie.Need-returns-4
 unfolding kindOf
 returns-4 c = rw (ne-eqb _ 2 (c .match .rest .0 .0 .1), ne-eqb _ 8 (c .match .rest .0 .1), ne-eqb _ 16 (c .match .rest .1)) refl

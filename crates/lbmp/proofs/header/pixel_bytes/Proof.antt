@@ -1,33 +1,24 @@
 -- The part begins after the header and is as long as the pixels are.
-use Rattle.lbmp.proofs.header.Parts.{pixels-are}
 use borrow.Author.Needs.{needs}
+use Rattle.lbmp.proofs.header.Parts.{pixels-are}
 use Rattle.lbmp.proofs.header.pixel_bytes.Statement.{statement}
 use Rattle.lbmp.proofs.header.pixel_bytes.Tie as tie
-use Rattle.lbmp.proofs.header.pixel_bytes.Reads as reads
-use Rattle.lbmp.proofs.header.pixel_bytes.Lts as lts
-use Rattle.lbmp.proofs.header.pixel_size.Reads as pixel-size-reads
 
--- src/header.rt:126:18
 pixel-size-requires : tie.Need-pixel-size-requires
 pixel-size-requires c κs = search needs
 
--- src/header.rt:126:13
 add-e : tie.Need-add-e
 add-e c = search needs
 
--- src/header.rt:127:5
 sub-result : tie.Need-sub-result
 sub-result c = search needs
 
--- src/header.rt:127:5
 part-result-start : tie.Need-part-result-start
 part-result-start c = search needs
 
--- src/header.rt:127:5
 part-result-end : tie.Need-part-result-end
 part-result-end c = search needs
 
--- src/header.rt:122:1
 returns : tie.Need-returns
 returns c = pixels-are (c .before .before .before .args .file .now) (c .before .before .before .args .h) (c .before .pixel-size .result) (c .before .before .before .pre .0) (c .before .pixel-size .ensures .0)
 

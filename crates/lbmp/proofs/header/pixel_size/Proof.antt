@@ -1,24 +1,17 @@
 -- The size of the header's type.
 use mathlib.Core.Path.{ap, _∙_}
+use borrow.Author.Needs.{needs}
 use Rattle.lbmp.specs.declared.header.Kind.{Kind}
 use Rattle.lbmp.specs.File.{imageSize}
-use borrow.Author.Needs.{needs}
 use Rattle.lbmp.proofs.header.pixel_size.Statement.{statement}
 use Rattle.lbmp.proofs.header.pixel_size.Tie as tie
-use Rattle.lbmp.proofs.header.pixel_size.Reads as reads
-use Rattle.lbmp.proofs.header.pixel_size.Lts as lts
-use Rattle.lbmp.proofs.header.image_size.Reads as image-size-reads
-use Rattle.lbmp.proofs.header.kind_of.Reads as kind-of-reads
 
--- src/header.rt:108:16
 kind-of-requires : tie.Need-kind-of-requires
 kind-of-requires c κs = search needs
 
--- src/header.rt:108:5
 image-size-requires : tie.Need-image-size-requires
 image-size-requires c κs = search needs
 
--- src/header.rt:105:1
 returns : tie.Need-returns
 returns c = (c .image-size .ensures .0 ∙ ap (λ (k : Kind). imageSize k (c .before .before .args .h .size)) (c .before .kind-of .ensures), c .image-size .ensures .1)
 

@@ -1,24 +1,19 @@
 -- The same product; it fits, as both sides are of 32 bits.
-use native.Mathlib.Omega.{arith}
-use Rattle.lbmp.proofs.planes.Sizes.{plane-fits}
 use mathlib.Core.Path.{refl}
-use Rattle.lbmp.specs.Plane.{planeSize}
+use native.Mathlib.Omega.{arith}
 use borrow.Author.Needs.{needs}
+use Rattle.lbmp.specs.Plane.{planeSize}
+use Rattle.lbmp.proofs.planes.Sizes.{plane-fits}
 use Rattle.lbmp.proofs.header.plane_size.Statement.{statement}
 use Rattle.lbmp.proofs.header.plane_size.Tie as tie
-use Rattle.lbmp.proofs.header.plane_size.Reads as reads
-use Rattle.lbmp.proofs.header.plane_size.Lts as lts
 
--- src/header.rt:78:6
 add-result : tie.Need-add-result
 add-result c = search needs
 
--- src/header.rt:78:5
 mul-result : tie.Need-mul-result
 unfolding planeSize
 mul-result c = record { fits = omega (arith, plane-fits (c .args .width) (c .args .height) (omega arith) (omega arith)) }
 
--- src/header.rt:75:1
 returns : tie.Need-returns
 unfolding planeSize
 returns c = (refl, plane-fits (c .args .width) (c .args .height) (omega arith) (omega arith))

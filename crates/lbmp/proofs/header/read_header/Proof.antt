@@ -1,34 +1,25 @@
 -- Field by field.
 use mathlib.Core.Path.{refl}
-use Rattle.lbmp.specs.File.{headerOf}
 use borrow.Author.Needs.{needs}
+use Rattle.lbmp.specs.File.{headerOf}
 use Rattle.lbmp.proofs.header.read_header.Statement.{statement}
 use Rattle.lbmp.proofs.header.read_header.Tie as tie
-use Rattle.lbmp.proofs.header.read_header.Reads as reads
-use Rattle.lbmp.proofs.header.read_header.Lts as lts
-use Rattle.lbmp.proofs.header.u32_at.Reads as u32-at-reads
 
--- src/header.rt:49:9
 u32-at-requires : tie.Need-u32-at-requires
 u32-at-requires c κs = search needs
 
--- src/header.rt:50:9
 u32-at-requires-2 : tie.Need-u32-at-requires-2
 u32-at-requires-2 c κs = search needs
 
--- src/header.rt:51:9
 u32-at-requires-3 : tie.Need-u32-at-requires-3
 u32-at-requires-3 c κs = search needs
 
--- src/header.rt:52:9
 u32-at-requires-4 : tie.Need-u32-at-requires-4
 u32-at-requires-4 c κs = search needs
 
--- src/header.rt:53:9
 u32-at-requires-5 : tie.Need-u32-at-requires-5
 u32-at-requires-5 c κs = search needs
 
--- src/header.rt:45:1
 returns : tie.Need-returns
 unfolding headerOf
 returns c = rw (c .before .before .before .before .u32-at .ensures, c .before .before .before .u32-at2 .ensures, c .before .before .u32-at3 .ensures, c .before .u32-at4 .ensures, c .u32-at5 .ensures) refl

@@ -1,23 +1,17 @@
 -- The bit of a byte.
-use native.Mathlib.Omega.{arith}
 use mathlib.Core.Path.{ap}
 use Prim.Native.Nat.{ℕ, _/_, _%_, _^_}
+use native.Mathlib.Omega.{arith}
 use borrow.Author.Needs.{needs}
 use Rattle.lbmp.proofs.paint.bit.Statement.{statement}
 use Rattle.lbmp.proofs.paint.bit.Tie as tie
-use Rattle.lbmp.proofs.paint.bit.Reads as reads
-use Rattle.lbmp.proofs.paint.bit.Lts as lts
-use Rattle.lbmp.proofs.header.wide.Reads as wide-reads
 
--- src/paint.rt:25:6
 wide-requires : tie.Need-wide-requires
 wide-requires c κs = search needs
 
--- src/paint.rt:25:6
 shr-result : tie.Need-shr-result
 shr-result c = search needs
 
--- src/paint.rt:21:1
 returns : tie.Need-returns
 returns c = (ap (λ (b : ℕ). b / 2 ^ c .before .args .s % 2) (c .wide .ensures .0), omega arith)
 

@@ -1,5 +1,5 @@
 -- What is left of the row is as before, what is behind is painted.
-use mathlib.Core.Path.{_≡_, refl, sym, ap, _∙_}
+use mathlib.Core.Path.{_≡_, refl, ap, _∙_}
 use Prim.Native.Nat.{ℕ, _-_, _≤_, _*_}
 use native.Mathlib.Omega.{arith}
 use borrow.Author.Needs.{needs}
@@ -10,10 +10,6 @@ use Rattle.lbmp.proofs.paint.Walks.{swept-turn}
 use Rattle.lbmp.proofs.paint.Places.{grey-is}
 use Rattle.lbmp.proofs.paint.grey_row.Statement.{statement}
 use Rattle.lbmp.proofs.paint.grey_row.Tie as tie
-use Rattle.lbmp.proofs.paint.grey_row.Reads as reads
-use Rattle.lbmp.proofs.paint.grey_row.Lts as lts
-use Rattle.lbmp.proofs.paint.bit.Reads as bit-reads
-use Rattle.lbmp.proofs.paint.grey_word.Reads as grey-word-reads
 
 abbrev Inv-loop : tie.InvT-loop
 Inv-loop high low w y out₀ base o s x₀ out x = (out ≡ swept (painted (greyAt high low w)) (y * w) x out₀) × (length out ≡ length out₀) × (x ≤ w)
@@ -21,80 +17,61 @@ Inv-loop high low w y out₀ base o s x₀ out x = (out ≡ swept (painted (grey
 abbrev μ-loop : tie.MeasureT-loop
 μ-loop high low w y out₀ base o s x₀ out x = w - x
 
--- src/paint.rt:49:16
 mul-base : tie.Need-mul-base Inv-loop μ-loop
 mul-base c = omega arith
 
--- src/paint.rt:50:13
 mul-o : tie.Need-mul-o Inv-loop μ-loop
 mul-o c = omega arith
 
--- src/paint.rt:51:13
 cast-s : tie.Need-cast-s Inv-loop μ-loop
 cast-s c = search needs
 
--- src/paint.rt:53:5
 loop-holds : tie.Need-loop-holds Inv-loop μ-loop
 unfolding swept
 loop-holds c = (refl, refl, omega arith)
 
--- src/paint.rt:54:41
 add-bit : tie.Need-add-bit Inv-loop μ-loop
 add-bit c = omega arith
 
--- src/paint.rt:54:36
 shared-slice-read-bit : tie.Need-shared-slice-read-bit Inv-loop μ-loop
 shared-slice-read-bit c = omega arith
 
--- src/paint.rt:54:32
 bit-requires : tie.Need-bit-requires Inv-loop μ-loop
 bit-requires c κs = omega arith
 
--- src/paint.rt:54:64
 add-bit-2 : tie.Need-add-bit-2 Inv-loop μ-loop
 add-bit-2 c = omega arith
 
--- src/paint.rt:54:60
 shared-slice-read-bit-2 : tie.Need-shared-slice-read-bit-2 Inv-loop μ-loop
 shared-slice-read-bit-2 c = omega arith
 
--- src/paint.rt:54:56
 bit-requires-2 : tie.Need-bit-requires-2 Inv-loop μ-loop
 bit-requires-2 c κs = omega arith
 
--- src/paint.rt:54:22
 grey-word-requires : tie.Need-grey-word-requires Inv-loop μ-loop
 grey-word-requires c κs = (c .before .before .bit .ensures .1, c .bit2 .ensures .1)
 
--- src/paint.rt:54:13
 add-out : tie.Need-add-out Inv-loop μ-loop
 add-out c = omega arith
 
--- src/paint.rt:54:9
 mul-out : tie.Need-mul-out Inv-loop μ-loop
 mul-out c = search needs
 
--- src/paint.rt:54:9
 slice-write-out : tie.Need-slice-write-out Inv-loop μ-loop
 slice-write-out c = omega arith
 
--- src/paint.rt:55:13
 add-x : tie.Need-add-x Inv-loop μ-loop
 add-x c = omega arith
 
--- src/paint.rt:53:5
 loop-less : tie.Need-loop-less Inv-loop μ-loop
 loop-less c = omega arith
 
--- src/paint.rt:53:5
 loop-again : tie.Need-loop-again Inv-loop μ-loop
 loop-again c = (swept-turn (painted (greyAt (c .before .before .before .before .before .before .before .before .before .before .args .high .now) (c .before .before .before .before .before .before .before .before .before .before .args .low .now) (c .before .before .before .before .before .before .before .before .before .before .args .w))) (c .before .before .before .before .before .before .before .before .before .before .args .y * c .before .before .before .before .before .before .before .before .before .before .args .w) (c .before .before .before .before .before .before .loop .x) (c .grey-word .result) (c .before .before .before .before .before .before .before .before .before .before .args .out .now) (c .before .before .before .before .before .before .loop .inv .0) (grey-is (c .before .before .before .before .before .before .before .before .before .before .args .w) (c .before .before .before .before .before .before .before .before .before .before .args .y) (c .before .before .before .before .before .before .loop .x) (c .before .before .before .before .before .loop-test .taken) (c .before .before .before .before .before .before .before .before .before .before .args .high .now) (c .before .before .before .before .before .before .before .before .before .before .args .low .now) (c .before .before .before .bit .result) (c .before .bit2 .result) (c .grey-word .result) _ (c .before .before .before .bit .ensures .0) (c .before .bit2 .ensures .0) (c .grey-word .ensures)), simp length-set (c .before .before .before .before .before .before .loop .inv .1), omega arith)
 
--- src/paint.rt:45:1
 same-length : tie.Need-same-length Inv-loop μ-loop
 same-length c = c .before .loop .inv .1
 
--- src/paint.rt:45:1
 returns : tie.Need-returns Inv-loop μ-loop
 returns c = c .before .loop .inv .0 ∙ ap (λ (n : ℕ). swept (painted (greyAt (c .before .before .before .before .before .args .high .now) (c .before .before .before .before .before .args .low .now) (c .before .before .before .before .before .args .w))) (c .before .before .before .before .before .args .y * c .before .before .before .before .before .args .w) n (c .before .before .before .before .before .args .out .now)) (omega arith)
 

@@ -1,76 +1,54 @@
 -- By the types.
-use mathlib.Core.Path.{sym, ap, _∙_}
+use mathlib.Core.Path.{sym, _∙_}
 use Prim.Native.Nat.{_*_}
 use native.Mathlib.Omega.{arith}
+use borrow.Author.Needs.{needs}
 use Rattle.lbmp.specs.declared.header.Kind.the-variants.{Greys, Rgb332, Rgb565}
 use Rattle.lbmp.specs.Plane.{planeSize}
 use Rattle.lbmp.specs.File.{kindOf, imageSize, expectedSize}
 use Rattle.lbmp.proofs.planes.Sizes.{product-fits}
 use Rattle.lbmp.proofs.paint.Images.{size-is, kind-are, are-332, are-565}
-use borrow.Author.Needs.{needs}
 use Rattle.lbmp.proofs.paint.paint_colors.Statement.{statement}
 use Rattle.lbmp.proofs.paint.paint_colors.Tie as tie
-use Rattle.lbmp.proofs.paint.paint_colors.Reads as reads
-use Rattle.lbmp.proofs.paint.paint_colors.Lts as lts
-use Rattle.lbmp.proofs.header.kind_of.Reads as kind-of-reads
-use Rattle.lbmp.proofs.paint.bytes332.Reads as bytes332-reads
-use Rattle.lbmp.proofs.paint.greys.Reads as greys-reads
-use Rattle.lbmp.proofs.paint.words565.Reads as words565-reads
-use Rattle.words.proofs.colors332.Reads as colors332-reads
-use Rattle.words.proofs.levels5.Reads as levels5-reads
-use Rattle.words.proofs.levels6.Reads as levels6-reads
 
--- src/paint.rt:108:13
 cast-n : tie.Need-cast-n
 cast-n c = search needs
 
--- src/paint.rt:108:32
 cast-n-2 : tie.Need-cast-n-2
 cast-n-2 c = search needs
 
--- src/paint.rt:108:13
 mul-n : tie.Need-mul-n
 mul-n c = record { fits = product-fits (c .before .before .before .before .args .h .width) (c .before .before .before .before .args .h .height) (omega arith) (omega arith) }
 
--- src/paint.rt:109:9
 kind-of-requires : tie.Need-kind-of-requires
 kind-of-requires c κs = search needs
 
--- src/paint.rt:111:36
 enum-told : tie.Need-enum-told
 enum-told c = search needs
 
--- src/paint.rt:111:24
 greys-requires : tie.Need-greys-requires
 unfolding imageSize expectedSize
 greys-requires c κs = (c .before .before .before .before .before .before .before .before .pre .0 .wide, (c .before .before .before .before .before .before .before .before .pre .1 .0 ∙ size-is (c .before .before .before .before .before .before .before .before .args .h) Greys (c .before .before .before .before .before .before .before .before .pre .0) (sym (c .before .before .before .kind-of .ensures) ∙ c .before .enum-told .given .1), c .before .before .before .before .before .before .before .before .pre .1 .1))
 
--- src/paint.rt:113:25
 enum-told-2 : tie.Need-enum-told-2
 enum-told-2 c = search needs
 
--- src/paint.rt:113:25
 colors332-requires : tie.Need-colors332-requires
 colors332-requires c κs = search needs
 
--- src/paint.rt:114:13
 bytes332-requires : tie.Need-bytes332-requires
 unfolding imageSize expectedSize
 bytes332-requires c κs = (omega (arith, c .before .before .before .before .before .before .before .before .before .before .pre .1 .0, size-is (c .before .before .before .before .before .before .before .before .before .before .args .h) Rgb332 (c .before .before .before .before .before .before .before .before .before .before .pre .0) (sym (c .before .before .before .before .before .kind-of .ensures) ∙ c .before .before .before .enum-told2 .given .1)), (c .before .before .before .before .before .before .before .before .before .before .pre .1 .1, c .before .before .colors332 .ensures))
 
--- src/paint.rt:117:25
 enum-told-3 : tie.Need-enum-told-3
 enum-told-3 c = search needs
 
--- src/paint.rt:117:25
 levels5-requires : tie.Need-levels5-requires
 levels5-requires c κs = search needs
 
--- src/paint.rt:118:25
 levels6-requires : tie.Need-levels6-requires
 levels6-requires c κs = search needs
 
--- src/paint.rt:119:13
 words565-requires : tie.Need-words565-requires
 unfolding imageSize expectedSize
 words565-requires c κs = (omega (arith, c .before .before .before .before .before .before .before .before .before .before .before .before .pre .1 .0, size-is (c .before .before .before .before .before .before .before .before .before .before .before .before .args .h) Rgb565 (c .before .before .before .before .before .before .before .before .before .before .before .before .pre .0) (sym (c .before .before .before .before .before .before .before .kind-of .ensures) ∙ c .before .before .before .before .before .enum-told3 .given .1)), (c .before .before .before .before .before .before .before .before .before .before .before .before .pre .1 .1, (c .before .before .before .before .levels5 .ensures, c .before .before .before .levels6 .ensures)))
@@ -78,31 +56,24 @@ words565-requires c κs = (omega (arith, c .before .before .before .before .befo
 enum-told-4 : tie.Need-enum-told-4
 enum-told-4 c = search needs
 
--- src/paint.rt:104:1
 same-length : tie.Need-same-length
 same-length c = search needs
 
--- src/paint.rt:104:1
 returns : tie.Need-returns
 returns c = c .before .before .greys .ensures ∙ kind-are Greys (kindOf (c .before .before .before .before .before .before .before .before .before .before .before .args .h .kind)) (c .before .before .before .before .before .before .before .before .before .before .before .args .p .now) (c .before .before .before .before .before .before .before .before .before .before .before .args .out .now) (planeSize (c .before .before .before .before .before .before .before .before .before .before .before .args .h .width) (c .before .before .before .before .before .before .before .before .before .before .before .args .h .height)) (c .before .before .before .before .before .before .before .before .before .before .before .args .h .width) (c .before .before .before .before .before .before .before .before .before .before .before .args .h .width * c .before .before .before .before .before .before .before .before .before .before .before .args .h .height) (sym (c .before .before .before .before .enum-told .given .1) ∙ c .before .before .before .before .before .before .kind-of .ensures)
 
--- src/paint.rt:104:1
 same-length-2 : tie.Need-same-length-2
 same-length-2 c = search needs
 
--- src/paint.rt:104:1
 returns-2 : tie.Need-returns-2
 returns-2 c = c .before .before .bytes332 .ensures ∙ are-332 (c .before .before .before .before .before .before .before .before .before .before .before .before .before .args .p .now) (c .before .before .before .before .before .before .before .before .before .before .before .before .before .args .out .now) (planeSize (c .before .before .before .before .before .before .before .before .before .before .before .before .before .args .h .width) (c .before .before .before .before .before .before .before .before .before .before .before .before .before .args .h .height)) (c .before .before .before .before .before .before .before .before .before .before .before .before .before .args .h .width) (c .before .before .before .before .before .before .before .before .before .before .before .before .before .args .h .width * c .before .before .before .before .before .before .before .before .before .before .before .before .before .args .h .height) ∙ kind-are Rgb332 (kindOf (c .before .before .before .before .before .before .before .before .before .before .before .before .before .args .h .kind)) (c .before .before .before .before .before .before .before .before .before .before .before .before .before .args .p .now) (c .before .before .before .before .before .before .before .before .before .before .before .before .before .args .out .now) (planeSize (c .before .before .before .before .before .before .before .before .before .before .before .before .before .args .h .width) (c .before .before .before .before .before .before .before .before .before .before .before .before .before .args .h .height)) (c .before .before .before .before .before .before .before .before .before .before .before .before .before .args .h .width) (c .before .before .before .before .before .before .before .before .before .before .before .before .before .args .h .width * c .before .before .before .before .before .before .before .before .before .before .before .before .before .args .h .height) (sym (c .before .before .before .before .before .before .enum-told2 .given .1) ∙ c .before .before .before .before .before .before .before .before .kind-of .ensures)
 
--- src/paint.rt:104:1
 same-length-3 : tie.Need-same-length-3
 same-length-3 c = search needs
 
--- src/paint.rt:104:1
 returns-3 : tie.Need-returns-3
 returns-3 c = c .before .before .words565 .ensures ∙ are-565 (c .before .before .before .before .before .before .before .before .before .before .before .before .before .before .before .args .p .now) (c .before .before .before .before .before .before .before .before .before .before .before .before .before .before .before .args .out .now) (planeSize (c .before .before .before .before .before .before .before .before .before .before .before .before .before .before .before .args .h .width) (c .before .before .before .before .before .before .before .before .before .before .before .before .before .before .before .args .h .height)) (c .before .before .before .before .before .before .before .before .before .before .before .before .before .before .before .args .h .width) (c .before .before .before .before .before .before .before .before .before .before .before .before .before .before .before .args .h .width * c .before .before .before .before .before .before .before .before .before .before .before .before .before .before .before .args .h .height) ∙ kind-are Rgb565 (kindOf (c .before .before .before .before .before .before .before .before .before .before .before .before .before .before .before .args .h .kind)) (c .before .before .before .before .before .before .before .before .before .before .before .before .before .before .before .args .p .now) (c .before .before .before .before .before .before .before .before .before .before .before .before .before .before .before .args .out .now) (planeSize (c .before .before .before .before .before .before .before .before .before .before .before .before .before .before .before .args .h .width) (c .before .before .before .before .before .before .before .before .before .before .before .before .before .before .before .args .h .height)) (c .before .before .before .before .before .before .before .before .before .before .before .before .before .before .before .args .h .width) (c .before .before .before .before .before .before .before .before .before .before .before .before .before .before .before .args .h .width * c .before .before .before .before .before .before .before .before .before .before .before .before .before .before .before .args .h .height) (sym (c .before .before .before .before .before .before .before .before .enum-told3 .given .1) ∙ c .before .before .before .before .before .before .before .before .before .before .kind-of .ensures)
 
--- src/paint.rt:104:1
 returns-4 : tie.Need-returns-4
 returns-4 c = absurd (c .before .before .before .before .before .before .before .pre .0 .known (sym (c .before .before .kind-of .ensures) ∙ c .enum-told4 .given .1))
 

@@ -1,20 +1,14 @@
 -- By the bit.
-use Prim.Native.Nat.{ℕ}
-use mathlib.Core.Path.{_≡_}
+use mathlib.Core.Path.{_≡_, refl}
 use native.Mathlib.Omega.{arith}
-use mathlib.Core.Path.{refl}
 use Rattle.lbmp.specs.Walk.{veiled}
 use Rattle.lbmp.proofs.paint.veiled_word.Statement.{statement}
 use Rattle.lbmp.proofs.paint.veiled_word.Tie as tie
-use Rattle.lbmp.proofs.paint.veiled_word.Reads as reads
-use Rattle.lbmp.proofs.paint.veiled_word.Lts as lts
 
--- src/paint.rt:130:9
 returns : tie.Need-returns
 unfolding veiled
 returns c = rw (c .if1 .taken) refl
 
--- src/paint.rt:125:1
 returns-2 : tie.Need-returns-2
 unfolding veiled
 returns-2 c = let z : c .before .args .bit ≡ 0 = omega arith in rw z refl

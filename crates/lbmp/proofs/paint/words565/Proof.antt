@@ -1,6 +1,6 @@
 -- What is left is as before, what is behind is painted.
-use mathlib.Core.Path.{_≡_, refl, sym, ap, _∙_}
-use Prim.Native.Nat.{ℕ, _-_, _≤_, _*_}
+use mathlib.Core.Path.{_≡_, refl, ap, _∙_}
+use Prim.Native.Nat.{ℕ, _-_, _≤_}
 use native.Mathlib.Omega.{arith}
 use borrow.Author.Needs.{needs}
 use lib.ListN.{length, length-set}
@@ -10,11 +10,6 @@ use Rattle.lbmp.proofs.paint.Walks.{flat-turn}
 use Rattle.lbmp.proofs.paint.Places.{is-565}
 use Rattle.lbmp.proofs.paint.words565.Statement.{statement}
 use Rattle.lbmp.proofs.paint.words565.Tie as tie
-use Rattle.lbmp.proofs.paint.words565.Reads as reads
-use Rattle.lbmp.proofs.paint.words565.Lts as lts
-use Rattle.lbmp.proofs.header.u16_at.Reads as u16-at-reads
-use Rattle.words.proofs.from_color.Reads as from-color-reads
-use Rattle.words.proofs.read565.Reads as read565-reads
 
 abbrev Inv-loop : tie.InvT-loop
 Inv-loop p levels5 levels6 n out₀ i₀ out i = (out ≡ swept (painted (at565 p)) 0 i out₀) × (length out ≡ length out₀) × (i ≤ n)
@@ -22,52 +17,40 @@ Inv-loop p levels5 levels6 n out₀ i₀ out i = (out ≡ swept (painted (at565 
 abbrev μ-loop : tie.MeasureT-loop
 μ-loop p levels5 levels6 n out₀ i₀ out i = n - i
 
--- src/paint.rt:94:5
 loop-holds : tie.Need-loop-holds Inv-loop μ-loop
 unfolding swept
 loop-holds c = (refl, refl, omega arith)
 
--- src/paint.rt:97:53
 mul-u16-at : tie.Need-mul-u16-at Inv-loop μ-loop
 mul-u16-at c = omega arith
 
--- src/paint.rt:97:28
 u16-at-requires : tie.Need-u16-at-requires Inv-loop μ-loop
 u16-at-requires c κs = omega arith
 
--- src/paint.rt:97:13
 read565-requires : tie.Need-read565-requires Inv-loop μ-loop
 read565-requires c κs = search needs
 
--- src/paint.rt:95:18
 from-color-requires : tie.Need-from-color-requires Inv-loop μ-loop
 from-color-requires c κs = search needs
 
--- src/paint.rt:95:9
 mul-out : tie.Need-mul-out Inv-loop μ-loop
 mul-out c = search needs
 
--- src/paint.rt:95:9
 slice-write-out : tie.Need-slice-write-out Inv-loop μ-loop
 slice-write-out c = omega arith
 
--- src/paint.rt:99:13
 add-i : tie.Need-add-i Inv-loop μ-loop
 add-i c = omega arith
 
--- src/paint.rt:94:5
 loop-less : tie.Need-loop-less Inv-loop μ-loop
 loop-less c = omega arith
 
--- src/paint.rt:94:5
 loop-again : tie.Need-loop-again Inv-loop μ-loop
 loop-again c = (flat-turn (painted (at565 (c .before .before .before .before .before .before .before .args .p .now))) (c .before .before .before .before .loop .i) (c .from-color .result) (c .before .before .before .before .before .before .before .args .out .now) (c .before .before .before .before .loop .inv .0) (is-565 (c .before .before .before .before .before .before .before .args .p .now) (c .before .before .before .before .before .before .before .args .levels5 .now) (c .before .before .before .before .before .before .before .args .levels6 .now) (c .before .before .before .before .loop .i) (c .before .before .u16-at .result) (c .from-color .result) _ (c .before .read565 .result) (c .before .before .before .before .before .before .before .pre .1 .1 .0) (c .before .before .before .before .before .before .before .pre .1 .1 .1) (c .before .before .u16-at .ensures .0) (c .before .read565 .ensures) (c .from-color .ensures)), simp length-set (c .before .before .before .before .loop .inv .1), omega arith)
 
--- src/paint.rt:89:1
 same-length : tie.Need-same-length Inv-loop μ-loop
 same-length c = c .before .loop .inv .1
 
--- src/paint.rt:89:1
 returns : tie.Need-returns Inv-loop μ-loop
 returns c = c .before .loop .inv .0 ∙ ap (λ (n : ℕ). swept (painted (at565 (c .before .before .before .before .args .p .now))) 0 n (c .before .before .before .before .args .out .now)) (omega arith)
 

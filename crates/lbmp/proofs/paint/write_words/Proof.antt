@@ -1,58 +1,41 @@
 -- The colours, and where there is a mask, the mask over them.
-use Rattle.lbmp.proofs.paint.Walks.{swept-length}
 use mathlib.Core.Path.{sym, ap, _∙_}
-use lib.ListN.{length}
 use native.Mathlib.Omega.{arith}
-use Rattle.lbmp.specs.declared.header.Header.{Header}
+use lib.ListN.{length}
+use borrow.Author.Needs.{needs}
 use Rattle.lbmp.specs.File.{pixelSize, maskSize}
+use Rattle.lbmp.proofs.paint.Walks.{swept-length}
 use Rattle.lbmp.proofs.faults.Verdicts.{same-whole}
 use Rattle.lbmp.proofs.header.Parts.{pixels-length, mask-length}
 use Rattle.lbmp.proofs.planes.Sizes.{mask-plane}
 use Rattle.lbmp.proofs.paint.Images.{written-plain, written-masked, same-pixels}
-use borrow.Author.Needs.{needs}
 use Rattle.lbmp.proofs.paint.write_words.Statement.{statement}
 use Rattle.lbmp.proofs.paint.write_words.Tie as tie
-use Rattle.lbmp.proofs.paint.write_words.Reads as reads
-use Rattle.lbmp.proofs.paint.write_words.Lts as lts
-use Rattle.lbmp.proofs.header.mask_bytes.Reads as mask-bytes-reads
-use Rattle.lbmp.proofs.header.pixel_bytes.Reads as pixel-bytes-reads
-use Rattle.lbmp.proofs.header.read_header.Reads as read-header-reads
-use Rattle.lbmp.proofs.paint.paint_colors.Reads as paint-colors-reads
-use Rattle.lbmp.proofs.paint.veil_rows.Reads as veil-rows-reads
 
--- src/paint.rt:169:9
 read-header-requires : tie.Need-read-header-requires
 read-header-requires c κs = omega (arith, c .before .before .pre .0 .long)
 
--- src/paint.rt:170:18
 pixel-bytes-requires : tie.Need-pixel-bytes-requires
 pixel-bytes-requires c κs = (c .read-header .ensures, same-whole (c .read-header .ensures) (c .before .before .before .pre .0))
 
--- src/paint.rt:170:5
 paint-colors-requires : tie.Need-paint-colors-requires
 paint-colors-requires c κs = (same-whole (c .before .before .read-header .ensures) (c .before .before .before .before .before .pre .0) .fair, (ap length (c .before .pixel-bytes .ensures) ∙ pixels-length (c .before .before .before .before .before .args .file .now) (c .before .before .before .before .before .pre .0) ∙ sym (ap pixelSize (c .before .before .read-header .ensures)), omega (arith, same-pixels (c .before .before .before .before .before .args .file .now) (c .before .before .read-header .result) (c .before .before .read-header .ensures), c .before .before .before .before .before .pre .1)))
 
--- src/paint.rt:172:19
 mask-bytes-requires : tie.Need-mask-bytes-requires
 mask-bytes-requires c κs = (c .before .before .before .before .before .before .before .read-header .ensures, same-whole (c .before .before .before .before .before .before .before .read-header .ensures) (c .before .before .before .before .before .before .before .before .before .before .pre .0))
 
--- src/paint.rt:172:9
 veil-rows-requires : tie.Need-veil-rows-requires
 veil-rows-requires c κs = (same-whole (c .before .before .before .before .before .before .before .before .before .read-header .ensures) (c .before .before .before .before .before .before .before .before .before .before .before .before .pre .0) .fair .wide, (ap length (c .before .mask-bytes .ensures) ∙ mask-length (c .before .before .before .before .before .before .before .before .before .before .before .before .args .file .now) (c .before .before .before .before .before .before .before .before .before .before .before .before .pre .0) ∙ sym (ap maskSize (c .before .before .before .before .before .before .before .before .before .read-header .ensures)) ∙ mask-plane (c .before .before .before .before .before .before .before .before .before .read-header .result) (c .before .before .if1 .taken), omega (arith, same-pixels (c .before .before .before .before .before .before .before .before .before .before .before .before .args .file .now) (c .before .before .before .before .before .before .before .before .before .read-header .result) (c .before .before .before .before .before .before .before .before .before .read-header .ensures), c .before .before .before .before .before .before .before .before .before .before .before .before .pre .1, ap length (c .before .before .before .before .before .before .paint-colors .ensures) ∙ swept-length _ _ _ _)))
 
--- src/paint.rt:165:1
 same-length : tie.Need-same-length
 same-length c = search needs
 
--- src/paint.rt:165:1
 returns : tie.Need-returns
 returns c = written-masked (c .before .before .before .before .before .before .before .before .before .before .before .before .before .before .before .args .file .now) (c .before .before .before .before .before .before .before .before .before .before .before .before .before .before .before .args .out .now) _ _ (c .before .before .before .before .before .before .before .before .before .before .before .before .read-header .result) (c .before .before .before .before .before .before .before .before .before .before .before .before .before .before .before .pre .1) (c .before .before .before .before .before .before .before .before .before .before .before .before .read-header .ensures) (c .before .before .before .before .before .before .before .before .before .before .before .pixel-bytes .ensures) (c .before .before .before .before .before .before .before .before .before .paint-colors .ensures) _ _ (c .before .before .before .before .mask-bytes .ensures) (c .before .before .veil-rows .ensures)
 
--- src/paint.rt:165:1
 same-length-2 : tie.Need-same-length-2
 same-length-2 c = search needs
 
--- src/paint.rt:165:1
 returns-2 : tie.Need-returns-2
 returns-2 c = written-plain (c .before .before .before .before .before .before .before .before .before .before .args .file .now) (c .before .before .before .before .before .before .before .before .before .before .args .out .now) _ _ (c .before .before .before .before .before .before .before .read-header .result) (c .before .before .before .before .before .before .before .before .before .before .pre .1) (c .before .before .before .before .before .before .before .read-header .ensures) (c .before .before .before .before .before .before .pixel-bytes .ensures) (c .before .before .before .before .paint-colors .ensures) (c .if1 .left)
 

@@ -1,32 +1,23 @@
 -- First the bytes of eight rows each, and then those of the last rows.
 use native.Mathlib.Omega.{arith}
+use borrow.Author.Needs.{needs}
 use Rattle.lbmp.proofs.planes.Sizes.{full-le, plane-le}
 use Rattle.lbmp.proofs.planes.Bits.{counts}
-use borrow.Author.Needs.{needs}
 use Rattle.lbmp.proofs.planes.clear_in.Statement.{statement}
 use Rattle.lbmp.proofs.planes.clear_in.Tie as tie
-use Rattle.lbmp.proofs.planes.clear_in.Reads as reads
-use Rattle.lbmp.proofs.planes.clear_in.Lts as lts
-use Rattle.lbmp.proofs.planes.count_ones.Reads as count-ones-reads
-use Rattle.lbmp.proofs.planes.kept_bits.Reads as kept-bits-reads
 
--- src/planes.rt:45:16
 mul-full : tie.Need-mul-full
 mul-full c = record { fits = omega (arith, full-le (c .before .args .width) (c .before .args .height)) }
 
--- src/planes.rt:46:9
 count-ones-requires : tie.Need-count-ones-requires
 count-ones-requires c κs = (omega arith, (omega (arith, full-le (c .before .args .width) (c .before .args .height)), (omega (arith, full-le (c .before .args .width) (c .before .args .height), plane-le (c .before .args .width) (c .before .args .height)), omega arith)))
 
--- src/planes.rt:47:34
 kept-bits-requires : tie.Need-kept-bits-requires
 kept-bits-requires c κs = search needs
 
--- src/planes.rt:47:5
 count-ones-requires-2 : tie.Need-count-ones-requires-2
 count-ones-requires-2 c κs = (omega (arith, full-le (c .before .before .before .args .width) (c .before .before .before .args .height)), (omega arith, (omega (arith, plane-le (c .before .before .before .args .width) (c .before .before .before .args .height)), c .before .count-ones .ensures .1)))
 
--- src/planes.rt:41:1
 returns : tie.Need-returns
 returns c = counts (c .before .before .before .before .args .m .now) (c .before .before .before .before .args .width) (c .before .before .before .before .args .height) (c .before .before .count-ones .result) (c .count-ones2 .result) (c .before .kept-bits .result) (c .before .before .before .before .pre .0) (c .before .kept-bits .ensures) (c .before .before .count-ones .ensures .0) (c .count-ones2 .ensures .0)
 

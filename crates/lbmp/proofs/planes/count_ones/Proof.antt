@@ -1,19 +1,15 @@
 -- The ones of the bytes behind are counted.
-use mathlib.Core.Path.{_≡_, refl, sym, ap, ap₂, _∙_}
+use mathlib.Core.Path.{_≡_, ap, _∙_}
 use Prim.Native.Nat.{ℕ, _+_, _-_, _*_, _≤_}
 use native.Mathlib.Omega.{arith}
-use native.Mathlib.Nat.{add-zero, sub-self}
 use borrow.Author.Needs.{needs}
 use lib.Bits.{bitAnd}
 use lib.Count.{ones}
-use lib.ListN.{length, getD}
+use lib.ListN.{getD}
 use Rattle.lbmp.specs.Plane.{total}
 use Rattle.lbmp.proofs.planes.Totals.{count-none, count-more}
 use Rattle.lbmp.proofs.planes.count_ones.Statement.{statement}
 use Rattle.lbmp.proofs.planes.count_ones.Tie as tie
-use Rattle.lbmp.proofs.planes.count_ones.Reads as reads
-use Rattle.lbmp.proofs.planes.count_ones.Lts as lts
-use Rattle.lbmp.proofs.planes.ones_of.Reads as ones-of-reads
 
 abbrev Inv-loop : tie.InvT-loop
 Inv-loop m «from» to keep «before» n₀ i₀ n i = (n ≡ «before» + total (λ k. ones (bitAnd (getD m («from» + k) 0) keep)) (i - «from»)) × («from» ≤ i) × (i ≤ to) × (n ≤ 8 * i)
@@ -21,35 +17,27 @@ Inv-loop m «from» to keep «before» n₀ i₀ n i = (n ≡ «before» + total
 abbrev μ-loop : tie.MeasureT-loop
 μ-loop m «from» to keep «before» n₀ i₀ n i = to - i
 
--- src/planes.rt:25:5
 loop-holds : tie.Need-loop-holds Inv-loop μ-loop
 loop-holds c = (count-none (λ k. ones (bitAnd (getD (c .before .args .m .now) (c .before .args .from + k) 0) (c .before .args .keep))) (c .before .args .before) (c .before .args .from), omega arith, omega arith, omega arith)
 
--- src/planes.rt:26:25
 shared-slice-read-ones-of : tie.Need-shared-slice-read-ones-of Inv-loop μ-loop
 shared-slice-read-ones-of c = omega arith
 
--- src/planes.rt:26:17
 ones-of-requires : tie.Need-ones-of-requires Inv-loop μ-loop
 ones-of-requires c κs = search needs
 
--- src/planes.rt:26:13
 add-n : tie.Need-add-n Inv-loop μ-loop
 add-n c = omega arith
 
--- src/planes.rt:27:13
 add-i : tie.Need-add-i Inv-loop μ-loop
 add-i c = omega arith
 
--- src/planes.rt:25:5
 loop-less : tie.Need-loop-less Inv-loop μ-loop
 loop-less c = omega arith
 
--- src/planes.rt:25:5
 loop-again : tie.Need-loop-again Inv-loop μ-loop
 loop-again c = (count-more (λ k. ones (bitAnd (getD (c .before .before .before .before .before .args .m .now) k 0) (c .before .before .before .before .before .args .keep))) (c .before .before .before .before .before .args .before) (c .before .before .before .before .before .args .from) (c .before .before .before .loop .i) (c .before .before .before .loop .n) (c .ones-of .result) (c .before .before .before .loop .inv .1) (c .before .before .before .loop .inv .0) (c .ones-of .ensures .0), omega arith, omega arith, omega arith)
 
--- src/planes.rt:19:1
 returns : tie.Need-returns Inv-loop μ-loop
 returns c = (c .before .loop .inv .0 ∙ ap (λ (k : ℕ). c .before .before .before .args .before + total (λ j. ones (bitAnd (getD (c .before .before .before .args .m .now) (c .before .before .before .args .from + j) 0) (c .before .before .before .args .keep))) (k - c .before .before .before .args .from)) (omega arith), omega arith)
 

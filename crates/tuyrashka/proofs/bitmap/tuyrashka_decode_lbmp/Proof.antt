@@ -1,45 +1,32 @@
 -- By the answer's two cases.
-use mathlib.Core.Path.{sym, ap, _∙_}
-use mathlib.Core.List.{List}
-use Rattle.lbmp.specs.Call.{Reading, reads, outcome}
-use Rattle.tuyrashka.proofs.Bitmaps.{told-refused, told-sound}
+use mathlib.Core.Path.{ap, _∙_}
 use borrow.Author.Needs.{needs}
+use Rattle.lbmp.specs.Call.{Reading, outcome}
+use Rattle.tuyrashka.proofs.Bitmaps.{told-refused, told-sound}
 use Rattle.tuyrashka.proofs.bitmap.tuyrashka_decode_lbmp.Statement.{statement}
 use Rattle.tuyrashka.proofs.bitmap.tuyrashka_decode_lbmp.Tie as tie
-use Rattle.tuyrashka.proofs.bitmap.tuyrashka_decode_lbmp.Reads as reads
-use Rattle.tuyrashka.proofs.bitmap.tuyrashka_decode_lbmp.Lts as lts
-use Rattle.lbmp.proofs.Refusal.number.Reads as number-reads
-use Rattle.lbmp.proofs.decode_lbmp.Reads as decode-lbmp-reads
 
--- src/bitmap.rt:16:9
 decode-lbmp-requires : tie.Need-decode-lbmp-requires
 decode-lbmp-requires c κs = search needs
 
--- src/bitmap.rt:18:25
 enum-known-j : tie.Need-enum-known-j
 enum-known-j c = search needs
 
--- src/bitmap.rt:22:13
 number-requires : tie.Need-number-requires
 number-requires c κs = search needs
 
--- src/bitmap.rt:24:23
 enum-known-j-2 : tie.Need-enum-known-j-2
 enum-known-j-2 c = search needs
 
--- src/bitmap.rt:6:1
 same-length : tie.Need-same-length
 same-length c = search needs
 
--- src/bitmap.rt:6:1
 returns : tie.Need-returns
 returns c = ap (λ (k : Reading). outcome k (c .before .before .before .before .before .before .decode-lbmp .last .1 .0)) (told-refused (c .before .before .before .before .before .before .decode-lbmp .result) _ (c .number .result) (c .before .before .j .given .1) (c .number .ensures)) ∙ c .before .before .before .before .before .before .decode-lbmp .ensures
 
--- src/bitmap.rt:6:1
 same-length-2 : tie.Need-same-length-2
 same-length-2 c = search needs
 
--- src/bitmap.rt:6:1
 returns-2 : tie.Need-returns-2
 returns-2 c = ap (λ (k : Reading). outcome k (c .before .before .before .before .before .decode-lbmp .last .1 .0)) (told-sound (c .before .before .before .before .before .decode-lbmp .result) _ (c .before .j2 .given .1)) ∙ c .before .before .before .before .before .decode-lbmp .ensures
 
