@@ -17,7 +17,10 @@ enum-told : tie.Need-enum-told
 enum-told c = search needs
 
 returns : tie.Need-returns
-returns c = decode-refused (c .before .before .before .before .before .args .file .now) (c .before .before .before .before .before .args .out .now) (c .before .before .judge .result) _ (c .before .before .judge .ensures) (c .enum-told .given .1)
+returns c =
+    let a = c .before .before .before .before .before .args in
+    let judge = c .before .before .judge in
+    decode-refused (a .file .now) (a .out .now) (judge .result) _ (judge .ensures) (c .enum-told .given .1)
 
 cast-if1 : tie.Need-cast-if1
 cast-if1 c = search needs
@@ -26,19 +29,38 @@ cast-if1-2 : tie.Need-cast-if1-2
 cast-if1-2 c = search needs
 
 mul-if1 : tie.Need-mul-if1
-mul-if1 c = record { fits = product-fits (c .before .before .before .j .given .0 .0 .width) (c .before .before .before .j .given .0 .0 .height) (omega arith) (omega arith) }
+mul-if1 c =
+    let j = c .before .before .before .j in
+    record { fits = product-fits (j .given .0 .0 .width) (j .given .0 .0 .height) (omega arith) (omega arith) }
 
 returns-2 : tie.Need-returns-2
-returns-2 c = let s = is-sound (c .before .before .before .before .before .before .before .before .before .args .file .now) (c .before .before .before .before .before .before .judge .result) (c .before .before .before .before .j .given .0 .0) (c .before .before .before .before .before .before .judge .ensures) (c .before .before .before .before .j .given .1) in decode-room (c .before .before .before .before .before .before .before .before .before .args .file .now) (c .before .before .before .before .before .before .before .before .before .args .out .now) (s .0) (omega (arith, its-pixels (c .before .before .before .before .before .before .before .before .before .args .file .now) (c .before .before .before .before .j .given .0 .0) (s .1), c .if1 .taken))
+returns-2 c =
+    let a = c .before .before .before .before .before .before .before .before .before .args in
+    let judge = c .before .before .before .before .before .before .judge in
+    let j = c .before .before .before .before .j in
+    let s = is-sound (a .file .now) (judge .result) (j .given .0 .0) (judge .ensures) (j .given .1) in
+    decode-room (a .file .now) (a .out .now) (s .0) (omega (arith, its-pixels (a .file .now) (j .given .0 .0) (s .1), c .if1 .taken))
 
 write-words-requires : tie.Need-write-words-requires
-write-words-requires c κs = let s = is-sound (c .before .before .before .before .before .before .before .before .before .before .args .file .now) (c .before .before .before .before .before .before .before .judge .result) (c .before .before .before .before .before .j .given .0 .0) (c .before .before .before .before .before .before .before .judge .ensures) (c .before .before .before .before .before .j .given .1) in (whole-file (c .before .before .before .before .before .before .before .before .before .before .args .file .now) (s .0), omega (arith, its-pixels (c .before .before .before .before .before .before .before .before .before .before .args .file .now) (c .before .before .before .before .before .j .given .0 .0) (s .1), c .before .if1 .left))
+write-words-requires c κs =
+    let a = c .before .before .before .before .before .before .before .before .before .before .args in
+    let judge = c .before .before .before .before .before .before .before .judge in
+    let j = c .before .before .before .before .before .j in
+    let s = is-sound (a .file .now) (judge .result) (j .given .0 .0) (judge .ensures) (j .given .1) in
+    (whole-file (a .file .now) (s .0), omega (arith, its-pixels (a .file .now) (j .given .0 .0) (s .1), c .before .if1 .left))
 
 same-length : tie.Need-same-length
 same-length c = search needs
 
 returns-3 : tie.Need-returns-3
-returns-3 c = let s = is-sound (c .before .before .before .before .before .before .before .before .before .before .before .before .before .args .file .now) (c .before .before .before .before .before .before .before .before .before .before .judge .result) (c .before .before .before .before .before .before .before .before .j .given .0 .0) (c .before .before .before .before .before .before .before .before .before .before .judge .ensures) (c .before .before .before .before .before .before .before .before .j .given .1) in decode-sound (c .before .before .before .before .before .before .before .before .before .before .before .before .before .args .file .now) (c .before .before .before .before .before .before .before .before .before .before .before .before .before .args .out .now) _ (c .before .before .before .before .before .before .before .before .j .given .0 .0) (s .0) (s .1) (omega (arith, its-pixels (c .before .before .before .before .before .before .before .before .before .before .before .before .before .args .file .now) (c .before .before .before .before .before .before .before .before .j .given .0 .0) (s .1), c .before .before .before .before .if1 .left)) (c .before .before .write-words .ensures)
+returns-3 c =
+    let a = c .before .before .before .before .before .before .before .before .before .before .before .before .before .args in
+    let judge = c .before .before .before .before .before .before .before .before .before .before .judge in
+    let j = c .before .before .before .before .before .before .before .before .j in
+    let s = is-sound (a .file .now) (judge .result) (j .given .0 .0) (judge .ensures) (j .given .1) in
+    decode-sound (a .file .now) (a .out .now) _ (j .given .0 .0) (s .0) (s .1)
+    (omega (arith, its-pixels (a .file .now) (j .given .0 .0) (s .1), c .before .before .before .before .if1 .left))
+    (c .before .before .write-words .ensures)
 
 pub decode-lbmp-spec : {M : Type 1} → statement M
 decode-lbmp-spec =

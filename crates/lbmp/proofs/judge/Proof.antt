@@ -16,7 +16,10 @@ enum-known-v : tie.Need-enum-known-v
 enum-known-v c = search needs
 
 returns : tie.Need-returns
-returns c = refuses (c .before .before .before .before .before .args .file .now) (c .before .before .before .verdict-of .result) _ (c .before .before .before .verdict-of .ensures) (c .before .v .given .1)
+returns c =
+    let a = c .before .before .before .before .before .args in
+    let verdict-of = c .before .before .before .verdict-of in
+    refuses (a .file .now) (verdict-of .result) _ (verdict-of .ensures) (c .before .v .given .1)
 
 enum-told : tie.Need-enum-told
 enum-told c = search needs
@@ -25,13 +28,33 @@ read-header-requires : tie.Need-read-header-requires
 read-header-requires c κs = long-enough (c .before .before .before .before .args .file .now) (sym (c .before .before .verdict-of .ensures) ∙ c .enum-told .given .1)
 
 mask-bytes-requires : tie.Need-mask-bytes-requires
-mask-bytes-requires c κs = (c .read-header .ensures, same-whole (c .read-header .ensures) (whole-file (c .before .before .before .before .before .args .file .now) (sym (c .before .before .before .verdict-of .ensures) ∙ c .before .enum-told .given .1)))
+mask-bytes-requires c κs =
+    let a = c .before .before .before .before .before .args in (
+      c .read-header .ensures,
+      same-whole (c .read-header .ensures)
+          (whole-file (a .file .now) (sym (c .before .before .before .verdict-of .ensures) ∙ c .before .enum-told .given .1)),
+    )
 
 clear-of-requires : tie.Need-clear-of-requires
-clear-of-requires c κs = (ap maskSize (c .before .read-header .ensures) ∙ sym (mask-length (c .before .before .before .before .before .before .args .file .now) (whole-file (c .before .before .before .before .before .before .args .file .now) (sym (c .before .before .before .before .verdict-of .ensures) ∙ c .before .before .enum-told .given .1))) ∙ sym (ap length (c .mask-bytes .ensures)), same-whole (c .before .read-header .ensures) (whole-file (c .before .before .before .before .before .before .args .file .now) (sym (c .before .before .before .before .verdict-of .ensures) ∙ c .before .before .enum-told .given .1)) .fair .few)
+clear-of-requires c κs =
+    let a = c .before .before .before .before .before .before .args in
+    let verdict-of = c .before .before .before .before .verdict-of in
+    let enum-told = c .before .before .enum-told in
+    let read-header = c .before .read-header in (
+      ap maskSize (read-header .ensures) ∙ sym (mask-length (a .file .now)
+          (whole-file (a .file .now) (sym (verdict-of .ensures) ∙ enum-told .given .1)))
+          ∙ sym (ap length (c .mask-bytes .ensures)),
+      same-whole (read-header .ensures)
+          (whole-file (a .file .now) (sym (verdict-of .ensures) ∙ enum-told .given .1)) .fair .few,
+    )
 
 returns-2 : tie.Need-returns-2
-returns-2 c = accepts (c .before .before .before .before .before .before .before .args .file .now) (c .before .before .before .before .before .verdict-of .result) (c .before .before .read-header .result) _ (c .clear-of .result) (c .before .before .before .before .before .verdict-of .ensures) (c .before .before .before .enum-told .given .1) (c .before .before .read-header .ensures) (c .before .mask-bytes .ensures) (c .clear-of .ensures)
+returns-2 c =
+    let a = c .before .before .before .before .before .before .before .args in
+    let verdict-of = c .before .before .before .before .before .verdict-of in
+    let read-header = c .before .before .read-header in
+    accepts (a .file .now) (verdict-of .result) (read-header .result) _ (c .clear-of .result) (verdict-of .ensures)
+    (c .before .before .before .enum-told .given .1) (read-header .ensures) (c .before .mask-bytes .ensures) (c .clear-of .ensures)
 
 pub judge-spec : {M : Type 1} → statement M
 judge-spec =

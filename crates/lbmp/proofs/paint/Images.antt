@@ -92,7 +92,9 @@ module _ (f out : List ℕ) (room : pixels f ≤ length out) where
   unfolding image painted wordAt colors wordUnder masked
   plain e =
       walked (painted (colors f)) (wordAt f) (pixels f) out room
-      (λ i _. sym (ap (λ (m : List ℕ). wordUnder (planeAt m (headerOf f .width) i) (colors f i)) e ∙ ap (λ (b : ℕ). wordUnder b (colors f i)) (no-bit (headerOf f .width) (i % headerOf f .width) (i / headerOf f .width))))
+      (λ i _.
+      sym (ap (λ (m : List ℕ). wordUnder (planeAt m (headerOf f .width) i) (colors f i)) e
+      ∙ ap (λ (b : ℕ). wordUnder b (colors f i)) (no-bit (headerOf f .width) (i % headerOf f .width) (i / headerOf f .width))))
 
   over : swept (veil (maskBytes f) (headerOf f .width)) 0 (pixels f) (swept (painted (colors f)) 0 (pixels f) out) ≡ image f ++ drop (pixels f) out
   unfolding image painted wordAt colors veil
@@ -102,7 +104,9 @@ module _ (f out : List ℕ) (room : pixels f ≤ length out) where
       (λ i l.
       ap (veil (maskBytes f) (headerOf f .width) i) (at (painted (colors f)) (pixels f) i out l room)
       ∙ under (planeAt (maskBytes f) (headerOf f .width) i) (colors f i) (color-channels _ _ _ _ i))
-      ∙ ap (λ (l : List ℕ). image f ++ l) (ap (drop (pixels f)) first ∙ drop-at (run (λ i. fromColor argb (colors f i)) 0 (pixels f)) (drop (pixels f) out) (pixels f) (run-length _ 0 (pixels f)))
+      ∙ ap (λ (l : List ℕ). image f ++ l)
+      (ap (drop (pixels f)) first
+      ∙ drop-at (run (λ i. fromColor argb (colors f i)) 0 (pixels f)) (drop (pixels f) out) (pixels f) (run-length _ 0 (pixels f)))
     where
       first : swept (painted (colors f)) 0 (pixels f) out ≡ run (λ i. fromColor argb (colors f i)) 0 (pixels f) ++ drop (pixels f) out
       first = walked (painted (colors f)) (λ i. fromColor argb (colors f i)) (pixels f) out room (λ i _. refl)

@@ -29,7 +29,9 @@ module _ (f : ℕ → ℕ → ℕ) (o : ℕ) where
   unfolding swept
   swept-on n zero l = rw (add-zero n) refl
   swept-on n (suc m) l =
-      rw (add-suc n m) (ap (λ (k : List ℕ). set k (o + n + m) (f (o + n + m) (getD k (o + n + m) 0))) (swept-on n m l) ∙ ap (λ (i : ℕ). set (swept f o (n + m) l) i (f i (getD (swept f o (n + m) l) i 0))) (omega arith))
+      rw (add-suc n m)
+      (ap (λ (k : List ℕ). set k (o + n + m) (f (o + n + m) (getD k (o + n + m) 0))) (swept-on n m l)
+      ∙ ap (λ (i : ℕ). set (swept f o (n + m) l) i (f i (getD (swept f o (n + m) l) i 0))) (omega arith))
 
 pub flat-turn : (f : ℕ → ℕ → ℕ) (n v : ℕ) (l : List ℕ) {l′ : List ℕ} → l′ ≡ swept f 0 n l → v ≡ f n (getD l′ n 0) → set l′ n v ≡ swept f 0 (n + 1) l
 flat-turn f n v l {l′} e g =

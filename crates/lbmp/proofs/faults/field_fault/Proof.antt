@@ -25,13 +25,33 @@ expected-size-requires : tie.Need-expected-size-requires
 expected-size-requires c κs = search needs
 
 returns-3 : tie.Need-returns-3
-returns-3 c = size-other (c .before .before .before .before .before .before .before .before .args .h) (c .before .before .before .before .before .before .if1 .left) (c .before .before .before .before .if2 .left) (λ q. c .if3 .taken (q ∙ sym (expected-is (c .before .before .before .before .before .before .before .before .args .h) (c .before .before .kind-of .result) (c .before .expected-size .result) (c .before .expected-size .ensures) (c .before .before .kind-of .ensures))))
+returns-3 c =
+    let a = c .before .before .before .before .before .before .before .before .args in
+    let if1 = c .before .before .before .before .before .before .if1 in
+    let kind-of = c .before .before .kind-of in
+    let expected-size = c .before .expected-size in
+    size-other (a .h) (if1 .left) (c .before .before .before .before .if2 .left)
+    (λ q. c .if3 .taken (q ∙ sym (expected-is (a .h) (kind-of .result) (expected-size .result) (expected-size .ensures) (kind-of .ensures))))
 
 returns-4 : tie.Need-returns-4
-returns-4 c = mask-other (c .before .before .before .before .before .before .before .before .before .before .args .h) (c .before .before .before .before .before .before .before .before .if1 .left) (c .before .before .before .before .before .before .if2 .left) (c .before .before .if3 .left ∙ expected-is (c .before .before .before .before .before .before .before .before .before .before .args .h) (c .before .before .before .before .kind-of .result) (c .before .before .before .expected-size .result) (c .before .before .before .expected-size .ensures) (c .before .before .before .before .kind-of .ensures)) (c .if4 .taken)
+returns-4 c =
+    let a = c .before .before .before .before .before .before .before .before .before .before .args in
+    let if1 = c .before .before .before .before .before .before .before .before .if1 in
+    let if2 = c .before .before .before .before .before .before .if2 in
+    let kind-of = c .before .before .before .before .kind-of in
+    let expected-size = c .before .before .before .expected-size in
+    mask-other (a .h) (if1 .left) (if2 .left) (c .before .before .if3 .left
+    ∙ expected-is (a .h) (kind-of .result) (expected-size .result) (expected-size .ensures) (kind-of .ensures)) (c .if4 .taken)
 
 returns-5 : tie.Need-returns-5
-returns-5 c = fields-fine (c .before .before .before .before .before .before .before .before .before .before .args .h) (c .before .before .before .before .before .before .before .before .if1 .left) (c .before .before .before .before .before .before .if2 .left) (c .before .before .if3 .left ∙ expected-is (c .before .before .before .before .before .before .before .before .before .before .args .h) (c .before .before .before .before .kind-of .result) (c .before .before .before .expected-size .result) (c .before .before .before .expected-size .ensures) (c .before .before .before .before .kind-of .ensures)) (c .if4 .left)
+returns-5 c =
+    let a = c .before .before .before .before .before .before .before .before .before .before .args in
+    let if1 = c .before .before .before .before .before .before .before .before .if1 in
+    let if2 = c .before .before .before .before .before .before .if2 in
+    let kind-of = c .before .before .before .before .kind-of in
+    let expected-size = c .before .before .before .expected-size in
+    fields-fine (a .h) (if1 .left) (if2 .left) (c .before .before .if3 .left
+    ∙ expected-is (a .h) (kind-of .result) (expected-size .result) (expected-size .ensures) (kind-of .ensures)) (c .if4 .left)
 
 pub field-fault-spec : {M : Type 1} → statement M
 field-fault-spec =

@@ -26,7 +26,12 @@ part-result-end : tie.Need-part-result-end
 part-result-end c = search needs
 
 returns : tie.Need-returns
-returns c = mask-is (c .before .before .before .before .args .file .now) (c .before .before .before .before .args .h) (c .before .before .pixel-size .result) (c .before .mask-size .result) (c .before .before .before .before .pre .0) (c .before .before .pixel-size .ensures .0) (c .before .mask-size .ensures .0)
+returns c =
+    let a = c .before .before .before .before .args in
+    let pixel-size = c .before .before .pixel-size in
+    let mask-size = c .before .mask-size in
+    mask-is (a .file .now) (a .h) (pixel-size .result) (mask-size .result) (c .before .before .before .before .pre .0) (pixel-size .ensures .0)
+    (mask-size .ensures .0)
 
 pub mask-bytes-spec : {M : Type 1} → statement M
 mask-bytes-spec =

@@ -20,7 +20,10 @@ part-result-end : tie.Need-part-result-end
 part-result-end c = search needs
 
 returns : tie.Need-returns
-returns c = pixels-are (c .before .before .before .args .file .now) (c .before .before .before .args .h) (c .before .pixel-size .result) (c .before .before .before .pre .0) (c .before .pixel-size .ensures .0)
+returns c =
+    let a = c .before .before .before .args in
+    let pixel-size = c .before .pixel-size in
+    pixels-are (a .file .now) (a .h) (pixel-size .result) (c .before .before .before .pre .0) (pixel-size .ensures .0)
 
 pub pixel-bytes-spec : {M : Type 1} → statement M
 pixel-bytes-spec =

@@ -22,7 +22,15 @@ u32-at-requires-5 c κs = search needs
 
 returns : tie.Need-returns
 unfolding headerOf
-returns c = rw (c .before .before .before .before .u32-at .ensures, c .before .before .before .u32-at2 .ensures, c .before .before .u32-at3 .ensures, c .before .u32-at4 .ensures, c .u32-at5 .ensures) refl
+returns c =
+    let u32-at = c .before .before .before .before .u32-at in
+    rw (
+      u32-at .ensures,
+      c .before .before .before .u32-at2 .ensures,
+      c .before .before .u32-at3 .ensures,
+      c .before .u32-at4 .ensures,
+      c .u32-at5 .ensures,
+    ) refl
 
 pub read-header-spec : {M : Type 1} → statement M
 read-header-spec =

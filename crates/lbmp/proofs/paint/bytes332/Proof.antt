@@ -46,13 +46,26 @@ loop-less : tie.Need-loop-less Inv-loop μ-loop
 loop-less c = omega arith
 
 loop-again : tie.Need-loop-again Inv-loop μ-loop
-loop-again c = (flat-turn (painted (at332 (c .before .before .before .before .before .before .before .before .args .p .now))) (c .before .before .before .before .before .loop .i) (c .from-color .result) (c .before .before .before .before .before .before .before .before .args .out .now) (c .before .before .before .before .before .loop .inv .0) (is-332 (c .before .before .before .before .before .before .before .before .args .p .now) (c .before .before .before .before .before .before .before .before .args .table .now) (c .before .before .before .before .before .loop .i) (c .before .before .wide .result) (c .from-color .result) _ (c .before .read332 .result) (c .before .before .before .before .before .before .before .before .pre .1 .1) (c .before .before .wide .ensures .0) (c .before .read332 .ensures) (c .from-color .ensures)), simp length-set (c .before .before .before .before .before .loop .inv .1), omega arith)
+loop-again c =
+    let a = c .before .before .before .before .before .before .before .before .args in
+    let p = c .before .before .before .before .before .before .before .before .pre in
+    let l = c .before .before .before .before .before .loop in
+    let wide = c .before .before .wide in
+    let read332 = c .before .read332 in (
+      flat-turn (painted (at332 (a .p .now))) (l .i) (c .from-color .result) (a .out .now) (l .inv .0)
+          (is-332 (a .p .now) (a .table .now) (l .i) (wide .result) (c .from-color .result) _ (read332 .result) (p .1 .1) (wide .ensures .0)
+          (read332 .ensures) (c .from-color .ensures)),
+      simp length-set (l .inv .1),
+      omega arith,
+    )
 
 same-length : tie.Need-same-length Inv-loop μ-loop
 same-length c = c .before .loop .inv .1
 
 returns : tie.Need-returns Inv-loop μ-loop
-returns c = c .before .loop .inv .0 ∙ ap (λ (n : ℕ). swept (painted (at332 (c .before .before .before .before .args .p .now))) 0 n (c .before .before .before .before .args .out .now)) (omega arith)
+returns c =
+    let a = c .before .before .before .before .args in
+    c .before .loop .inv .0 ∙ ap (λ (n : ℕ). swept (painted (at332 (a .p .now))) 0 n (a .out .now)) (omega arith)
 
 pub bytes332-spec : {M : Type 1} → statement M
 bytes332-spec =

@@ -67,13 +67,26 @@ loop-less : tie.Need-loop-less Inv-loop μ-loop
 loop-less c = omega arith
 
 loop-again : tie.Need-loop-again Inv-loop μ-loop
-loop-again c = (swept-turn (painted (greyAt (c .before .before .before .before .before .before .before .before .before .before .args .high .now) (c .before .before .before .before .before .before .before .before .before .before .args .low .now) (c .before .before .before .before .before .before .before .before .before .before .args .w))) (c .before .before .before .before .before .before .before .before .before .before .args .y * c .before .before .before .before .before .before .before .before .before .before .args .w) (c .before .before .before .before .before .before .loop .x) (c .grey-word .result) (c .before .before .before .before .before .before .before .before .before .before .args .out .now) (c .before .before .before .before .before .before .loop .inv .0) (grey-is (c .before .before .before .before .before .before .before .before .before .before .args .w) (c .before .before .before .before .before .before .before .before .before .before .args .y) (c .before .before .before .before .before .before .loop .x) (c .before .before .before .before .before .loop-test .taken) (c .before .before .before .before .before .before .before .before .before .before .args .high .now) (c .before .before .before .before .before .before .before .before .before .before .args .low .now) (c .before .before .before .bit .result) (c .before .bit2 .result) (c .grey-word .result) _ (c .before .before .before .bit .ensures .0) (c .before .bit2 .ensures .0) (c .grey-word .ensures)), simp length-set (c .before .before .before .before .before .before .loop .inv .1), omega arith)
+loop-again c =
+    let a = c .before .before .before .before .before .before .before .before .before .before .args in
+    let l = c .before .before .before .before .before .before .loop in
+    let t = c .before .before .before .before .before .loop-test in
+    let bit = c .before .before .before .bit in
+    let bit2 = c .before .bit2 in (
+      swept-turn (painted (greyAt (a .high .now) (a .low .now) (a .w))) (a .y * a .w) (l .x) (c .grey-word .result) (a .out .now) (l .inv .0)
+          (grey-is (a .w) (a .y) (l .x) (t .taken) (a .high .now) (a .low .now) (bit .result) (bit2 .result) (c .grey-word .result) _ (bit .ensures .0)
+          (bit2 .ensures .0) (c .grey-word .ensures)),
+      simp length-set (l .inv .1),
+      omega arith,
+    )
 
 same-length : tie.Need-same-length Inv-loop μ-loop
 same-length c = c .before .loop .inv .1
 
 returns : tie.Need-returns Inv-loop μ-loop
-returns c = c .before .loop .inv .0 ∙ ap (λ (n : ℕ). swept (painted (greyAt (c .before .before .before .before .before .args .high .now) (c .before .before .before .before .before .args .low .now) (c .before .before .before .before .before .args .w))) (c .before .before .before .before .before .args .y * c .before .before .before .before .before .args .w) n (c .before .before .before .before .before .args .out .now)) (omega arith)
+returns c =
+    let a = c .before .before .before .before .before .args in
+    c .before .loop .inv .0 ∙ ap (λ (n : ℕ). swept (painted (greyAt (a .high .now) (a .low .now) (a .w))) (a .y * a .w) n (a .out .now)) (omega arith)
 
 pub grey-row-spec : {M : Type 1} → statement M
 grey-row-spec =

@@ -45,10 +45,36 @@ cast-rows : tie.Need-cast-rows Inv-loop μ-loop
 cast-rows c = search needs
 
 loop-holds : tie.Need-loop-holds Inv-loop μ-loop
-loop-holds c = (rows-none _ (c .before .before .before .before .before .before .args .h .width) (c .before .before .before .before .before .before .args .out .now), refl, omega arith)
+loop-holds c =
+    let a = c .before .before .before .before .before .before .args in
+    (rows-none _ (a .h .width) (a .out .now), refl, omega arith)
 
 grey-row-requires : tie.Need-grey-row-requires Inv-loop μ-loop
-grey-row-requires c κs = (c .before .before .before .before .before .before .before .before .before .pre .0, (omega (arith, plane-row (c .before .before .before .before .before .before .before .before .before .args .h .width) (c .before .before .before .before .before .before .before .before .before .args .h .height) (c .before .before .loop .y) (c .before .loop-test .taken), high-length (c .before .before .before .before .before .before .before .before .before .args .p .now) (planeSize (c .before .before .before .before .before .before .before .before .before .args .h .width) (c .before .before .before .before .before .before .before .before .before .args .h .height)) (c .before .before .before .before .before .before .before .before .before .pre .1 .0)), (omega (arith, plane-row (c .before .before .before .before .before .before .before .before .before .args .h .width) (c .before .before .before .before .before .before .before .before .before .args .h .height) (c .before .before .loop .y) (c .before .loop-test .taken), low-length (c .before .before .before .before .before .before .before .before .before .args .p .now) (planeSize (c .before .before .before .before .before .before .before .before .before .args .h .width) (c .before .before .before .before .before .before .before .before .before .args .h .height)) (c .before .before .before .before .before .before .before .before .before .pre .1 .0)), omega (arith, row-room (c .before .before .before .before .before .before .before .before .before .args .h .width) (c .before .before .before .before .before .before .before .before .before .args .h .height) (c .before .before .loop .y) (length (c .before .before .before .before .before .before .before .before .before .args .out .now)) (c .before .loop-test .taken) (c .before .before .before .before .before .before .before .before .before .pre .1 .1), c .before .before .loop .inv .1))))
+grey-row-requires c κs =
+    let p = c .before .before .before .before .before .before .before .before .before .pre in
+    let a = c .before .before .before .before .before .before .before .before .before .args in
+    let l = c .before .before .loop in
+    let t = c .before .loop-test in (
+      p .0,
+      (
+        omega (
+          arith,
+          plane-row (a .h .width) (a .h .height) (l .y) (t .taken),
+          high-length (a .p .now) (planeSize (a .h .width) (a .h .height))
+              (p .1 .0),
+        ),
+        (
+          omega (
+            arith,
+            plane-row (a .h .width) (a .h .height) (l .y) (t .taken),
+            low-length (a .p .now)
+                (planeSize (a .h .width) (a .h .height)) (p .1 .0),
+          ),
+          omega
+              (arith, row-room (a .h .width) (a .h .height) (l .y) (length (a .out .now)) (t .taken) (p .1 .1), l .inv .1),
+        ),
+      ),
+    )
 
 add-y : tie.Need-add-y Inv-loop μ-loop
 add-y c = omega arith
@@ -57,13 +83,27 @@ loop-less : tie.Need-loop-less Inv-loop μ-loop
 loop-less c = omega arith
 
 loop-again : tie.Need-loop-again Inv-loop μ-loop
-loop-again c = (row-turn _ (c .before .before .before .before .before .before .before .before .before .before .before .before .args .h .width) (c .before .before .before .before .before .loop .y) (c .before .before .before .before .before .before .before .before .before .before .before .before .args .out .now) (c .before .before .before .before .before .loop .inv .0) (c .before .before .grey-row .ensures), ap length (c .before .before .grey-row .ensures) ∙ swept-length _ _ _ _ ∙ c .before .before .before .before .before .loop .inv .1, omega arith)
+loop-again c =
+    let a = c .before .before .before .before .before .before .before .before .before .before .before .before .args in
+    let l = c .before .before .before .before .before .loop in
+    let grey-row = c .before .before .grey-row in (
+      row-turn _ (a .h .width) (l .y) (a .out .now) (l .inv .0) (grey-row .ensures),
+      ap length (grey-row .ensures) ∙ swept-length _ _ _ _
+          ∙ l .inv .1,
+      omega arith,
+    )
 
 same-length : tie.Need-same-length Inv-loop μ-loop
 same-length c = c .before .loop .inv .1
 
 returns : tie.Need-returns Inv-loop μ-loop
-returns c = rows-all _ (c .before .before .before .before .before .before .before .before .args .h .width) (c .before .before .before .before .before .before .before .before .args .h .height) (c .before .loop .y) (c .before .before .before .before .before .before .before .before .args .out .now) (c .before .loop .inv .0) (c .before .loop .inv .2) (c .loop-test .left) ∙ greys-are (c .before .before .before .before .before .before .before .before .args .p .now) _ _ (c .before .before .before .before .before .before .before .before .args .out .now) (planeSize (c .before .before .before .before .before .before .before .before .args .h .width) (c .before .before .before .before .before .before .before .before .args .h .height)) (c .before .before .before .before .before .before .before .before .args .h .width) (c .before .before .before .before .before .before .before .before .args .h .width * c .before .before .before .before .before .before .before .before .args .h .height) (high-is (c .before .before .before .before .before .before .before .before .args .p .now) (planeSize (c .before .before .before .before .before .before .before .before .args .h .width) (c .before .before .before .before .before .before .before .before .args .h .height)) (c .before .before .before .before .before .before .before .before .pre .1 .0)) (low-is (c .before .before .before .before .before .before .before .before .args .p .now) (planeSize (c .before .before .before .before .before .before .before .before .args .h .width) (c .before .before .before .before .before .before .before .before .args .h .height)) (c .before .before .before .before .before .before .before .before .pre .1 .0))
+returns c =
+    let a = c .before .before .before .before .before .before .before .before .args in
+    let p = c .before .before .before .before .before .before .before .before .pre in
+    let l = c .before .loop in
+    rows-all _ (a .h .width) (a .h .height) (l .y) (a .out .now) (l .inv .0) (l .inv .2) (c .loop-test .left)
+    ∙ greys-are (a .p .now) _ _ (a .out .now) (planeSize (a .h .width) (a .h .height)) (a .h .width) (a .h .width * a .h .height)
+    (high-is (a .p .now) (planeSize (a .h .width) (a .h .height)) (p .1 .0)) (low-is (a .p .now) (planeSize (a .h .width) (a .h .height)) (p .1 .0))
 
 pub greys-spec : {M : Type 1} → statement M
 greys-spec =

@@ -18,7 +18,9 @@ cast-n-2 : tie.Need-cast-n-2
 cast-n-2 c = search needs
 
 mul-n : tie.Need-mul-n
-mul-n c = record { fits = product-fits (c .before .before .before .before .args .h .width) (c .before .before .before .before .args .h .height) (omega arith) (omega arith) }
+mul-n c =
+    let a = c .before .before .before .before .args in
+    record { fits = product-fits (a .h .width) (a .h .height) (omega arith) (omega arith) }
 
 kind-of-requires : tie.Need-kind-of-requires
 kind-of-requires c κs = search needs
@@ -28,7 +30,15 @@ enum-told c = search needs
 
 greys-requires : tie.Need-greys-requires
 unfolding imageSize expectedSize
-greys-requires c κs = (c .before .before .before .before .before .before .before .before .pre .0 .wide, (c .before .before .before .before .before .before .before .before .pre .1 .0 ∙ size-is (c .before .before .before .before .before .before .before .before .args .h) Greys (c .before .before .before .before .before .before .before .before .pre .0) (sym (c .before .before .before .kind-of .ensures) ∙ c .before .enum-told .given .1), c .before .before .before .before .before .before .before .before .pre .1 .1))
+greys-requires c κs =
+    let p = c .before .before .before .before .before .before .before .before .pre in
+    let a = c .before .before .before .before .before .before .before .before .args in (
+      p .0 .wide,
+      (
+        p .1 .0 ∙ size-is (a .h) Greys (p .0) (sym (c .before .before .before .kind-of .ensures) ∙ c .before .enum-told .given .1),
+        p .1 .1,
+      ),
+    )
 
 enum-told-2 : tie.Need-enum-told-2
 enum-told-2 c = search needs
@@ -38,7 +48,13 @@ colors332-requires c κs = search needs
 
 bytes332-requires : tie.Need-bytes332-requires
 unfolding imageSize expectedSize
-bytes332-requires c κs = (omega (arith, c .before .before .before .before .before .before .before .before .before .before .pre .1 .0, size-is (c .before .before .before .before .before .before .before .before .before .before .args .h) Rgb332 (c .before .before .before .before .before .before .before .before .before .before .pre .0) (sym (c .before .before .before .before .before .kind-of .ensures) ∙ c .before .before .before .enum-told2 .given .1)), (c .before .before .before .before .before .before .before .before .before .before .pre .1 .1, c .before .before .colors332 .ensures))
+bytes332-requires c κs =
+    let p = c .before .before .before .before .before .before .before .before .before .before .pre in
+    let a = c .before .before .before .before .before .before .before .before .before .before .args in
+    let kind-of = c .before .before .before .before .before .kind-of in (
+      omega (arith, p .1 .0, size-is (a .h) Rgb332 (p .0) (sym (kind-of .ensures) ∙ c .before .before .before .enum-told2 .given .1)),
+      (p .1 .1, c .before .before .colors332 .ensures),
+    )
 
 enum-told-3 : tie.Need-enum-told-3
 enum-told-3 c = search needs
@@ -51,7 +67,15 @@ levels6-requires c κs = search needs
 
 words565-requires : tie.Need-words565-requires
 unfolding imageSize expectedSize
-words565-requires c κs = (omega (arith, c .before .before .before .before .before .before .before .before .before .before .before .before .pre .1 .0, size-is (c .before .before .before .before .before .before .before .before .before .before .before .before .args .h) Rgb565 (c .before .before .before .before .before .before .before .before .before .before .before .before .pre .0) (sym (c .before .before .before .before .before .before .before .kind-of .ensures) ∙ c .before .before .before .before .before .enum-told3 .given .1)), (c .before .before .before .before .before .before .before .before .before .before .before .before .pre .1 .1, (c .before .before .before .before .levels5 .ensures, c .before .before .before .levels6 .ensures)))
+words565-requires c κs =
+    let p = c .before .before .before .before .before .before .before .before .before .before .before .before .pre in
+    let a = c .before .before .before .before .before .before .before .before .before .before .before .before .args in
+    let kind-of = c .before .before .before .before .before .before .before .kind-of in
+    let enum-told3 = c .before .before .before .before .before .enum-told3 in
+    let levels5 = c .before .before .before .before .levels5 in (
+      omega (arith, p .1 .0, size-is (a .h) Rgb565 (p .0) (sym (kind-of .ensures) ∙ enum-told3 .given .1)),
+      (p .1 .1, (levels5 .ensures, c .before .before .before .levels6 .ensures)),
+    )
 
 enum-told-4 : tie.Need-enum-told-4
 enum-told-4 c = search needs
@@ -60,19 +84,36 @@ same-length : tie.Need-same-length
 same-length c = search needs
 
 returns : tie.Need-returns
-returns c = c .before .before .greys .ensures ∙ kind-are Greys (kindOf (c .before .before .before .before .before .before .before .before .before .before .before .args .h .kind)) (c .before .before .before .before .before .before .before .before .before .before .before .args .p .now) (c .before .before .before .before .before .before .before .before .before .before .before .args .out .now) (planeSize (c .before .before .before .before .before .before .before .before .before .before .before .args .h .width) (c .before .before .before .before .before .before .before .before .before .before .before .args .h .height)) (c .before .before .before .before .before .before .before .before .before .before .before .args .h .width) (c .before .before .before .before .before .before .before .before .before .before .before .args .h .width * c .before .before .before .before .before .before .before .before .before .before .before .args .h .height) (sym (c .before .before .before .before .enum-told .given .1) ∙ c .before .before .before .before .before .before .kind-of .ensures)
+returns c =
+    let a = c .before .before .before .before .before .before .before .before .before .before .before .args in
+    let kind-of = c .before .before .before .before .before .before .kind-of in
+    let enum-told = c .before .before .before .before .enum-told in
+    c .before .before .greys .ensures ∙ kind-are Greys (kindOf (a .h .kind)) (a .p .now) (a .out .now) (planeSize (a .h .width) (a .h .height))
+    (a .h .width) (a .h .width * a .h .height) (sym (enum-told .given .1) ∙ kind-of .ensures)
 
 same-length-2 : tie.Need-same-length-2
 same-length-2 c = search needs
 
 returns-2 : tie.Need-returns-2
-returns-2 c = c .before .before .bytes332 .ensures ∙ are-332 (c .before .before .before .before .before .before .before .before .before .before .before .before .before .args .p .now) (c .before .before .before .before .before .before .before .before .before .before .before .before .before .args .out .now) (planeSize (c .before .before .before .before .before .before .before .before .before .before .before .before .before .args .h .width) (c .before .before .before .before .before .before .before .before .before .before .before .before .before .args .h .height)) (c .before .before .before .before .before .before .before .before .before .before .before .before .before .args .h .width) (c .before .before .before .before .before .before .before .before .before .before .before .before .before .args .h .width * c .before .before .before .before .before .before .before .before .before .before .before .before .before .args .h .height) ∙ kind-are Rgb332 (kindOf (c .before .before .before .before .before .before .before .before .before .before .before .before .before .args .h .kind)) (c .before .before .before .before .before .before .before .before .before .before .before .before .before .args .p .now) (c .before .before .before .before .before .before .before .before .before .before .before .before .before .args .out .now) (planeSize (c .before .before .before .before .before .before .before .before .before .before .before .before .before .args .h .width) (c .before .before .before .before .before .before .before .before .before .before .before .before .before .args .h .height)) (c .before .before .before .before .before .before .before .before .before .before .before .before .before .args .h .width) (c .before .before .before .before .before .before .before .before .before .before .before .before .before .args .h .width * c .before .before .before .before .before .before .before .before .before .before .before .before .before .args .h .height) (sym (c .before .before .before .before .before .before .enum-told2 .given .1) ∙ c .before .before .before .before .before .before .before .before .kind-of .ensures)
+returns-2 c =
+    let a = c .before .before .before .before .before .before .before .before .before .before .before .before .before .args in
+    let kind-of = c .before .before .before .before .before .before .before .before .kind-of in
+    let enum-told2 = c .before .before .before .before .before .before .enum-told2 in
+    c .before .before .bytes332 .ensures ∙ are-332 (a .p .now) (a .out .now) (planeSize (a .h .width) (a .h .height)) (a .h .width)
+    (a .h .width * a .h .height) ∙ kind-are Rgb332 (kindOf (a .h .kind)) (a .p .now) (a .out .now) (planeSize (a .h .width) (a .h .height))
+    (a .h .width) (a .h .width * a .h .height) (sym (enum-told2 .given .1) ∙ kind-of .ensures)
 
 same-length-3 : tie.Need-same-length-3
 same-length-3 c = search needs
 
 returns-3 : tie.Need-returns-3
-returns-3 c = c .before .before .words565 .ensures ∙ are-565 (c .before .before .before .before .before .before .before .before .before .before .before .before .before .before .before .args .p .now) (c .before .before .before .before .before .before .before .before .before .before .before .before .before .before .before .args .out .now) (planeSize (c .before .before .before .before .before .before .before .before .before .before .before .before .before .before .before .args .h .width) (c .before .before .before .before .before .before .before .before .before .before .before .before .before .before .before .args .h .height)) (c .before .before .before .before .before .before .before .before .before .before .before .before .before .before .before .args .h .width) (c .before .before .before .before .before .before .before .before .before .before .before .before .before .before .before .args .h .width * c .before .before .before .before .before .before .before .before .before .before .before .before .before .before .before .args .h .height) ∙ kind-are Rgb565 (kindOf (c .before .before .before .before .before .before .before .before .before .before .before .before .before .before .before .args .h .kind)) (c .before .before .before .before .before .before .before .before .before .before .before .before .before .before .before .args .p .now) (c .before .before .before .before .before .before .before .before .before .before .before .before .before .before .before .args .out .now) (planeSize (c .before .before .before .before .before .before .before .before .before .before .before .before .before .before .before .args .h .width) (c .before .before .before .before .before .before .before .before .before .before .before .before .before .before .before .args .h .height)) (c .before .before .before .before .before .before .before .before .before .before .before .before .before .before .before .args .h .width) (c .before .before .before .before .before .before .before .before .before .before .before .before .before .before .before .args .h .width * c .before .before .before .before .before .before .before .before .before .before .before .before .before .before .before .args .h .height) (sym (c .before .before .before .before .before .before .before .before .enum-told3 .given .1) ∙ c .before .before .before .before .before .before .before .before .before .before .kind-of .ensures)
+returns-3 c =
+    let a = c .before .before .before .before .before .before .before .before .before .before .before .before .before .before .before .args in
+    let kind-of = c .before .before .before .before .before .before .before .before .before .before .kind-of in
+    let enum-told3 = c .before .before .before .before .before .before .before .before .enum-told3 in
+    c .before .before .words565 .ensures ∙ are-565 (a .p .now) (a .out .now) (planeSize (a .h .width) (a .h .height)) (a .h .width)
+    (a .h .width * a .h .height) ∙ kind-are Rgb565 (kindOf (a .h .kind)) (a .p .now) (a .out .now) (planeSize (a .h .width) (a .h .height))
+    (a .h .width) (a .h .width * a .h .height) (sym (enum-told3 .given .1) ∙ kind-of .ensures)
 
 returns-4 : tie.Need-returns-4
 returns-4 c = absurd (c .before .before .before .before .before .before .before .pre .0 .known (sym (c .before .before .kind-of .ensures) ∙ c .enum-told4 .given .1))

@@ -66,13 +66,25 @@ loop-less : tie.Need-loop-less Inv-loop μ-loop
 loop-less c = omega arith
 
 loop-again : tie.Need-loop-again Inv-loop μ-loop
-loop-again c = (swept-turn (veil (c .before .before .before .before .before .before .before .before .args .m .now) (c .before .before .before .before .before .before .before .before .args .w)) (c .before .before .before .before .before .before .before .before .args .y * c .before .before .before .before .before .before .before .before .args .w) (c .before .before .before .before .before .loop .x) (c .veiled-word .result) (c .before .before .before .before .before .before .before .before .args .out .now) (c .before .before .before .before .before .loop .inv .0) (veil-is (c .before .before .before .before .before .before .before .before .args .w) (c .before .before .before .before .before .before .before .before .args .y) (c .before .before .before .before .before .loop .x) (c .before .before .before .before .loop-test .taken) (c .before .before .before .before .before .before .before .before .args .m .now) (c .before .before .bit .result) (c .veiled-word .result) _ (c .before .before .bit .ensures .0) (c .veiled-word .ensures)), simp length-set (c .before .before .before .before .before .loop .inv .1), omega arith)
+loop-again c =
+    let a = c .before .before .before .before .before .before .before .before .args in
+    let l = c .before .before .before .before .before .loop in
+    let t = c .before .before .before .before .loop-test in
+    let bit = c .before .before .bit in (
+      swept-turn (veil (a .m .now) (a .w)) (a .y * a .w) (l .x) (c .veiled-word .result) (a .out .now) (l .inv .0)
+          (veil-is (a .w) (a .y) (l .x) (t .taken) (a .m .now) (bit .result) (c .veiled-word .result) _ (bit .ensures .0) (c .veiled-word .ensures)),
+      simp
+          length-set (l .inv .1),
+      omega arith,
+    )
 
 same-length : tie.Need-same-length Inv-loop μ-loop
 same-length c = c .before .loop .inv .1
 
 returns : tie.Need-returns Inv-loop μ-loop
-returns c = c .before .loop .inv .0 ∙ ap (λ (n : ℕ). swept (veil (c .before .before .before .before .args .m .now) (c .before .before .before .before .args .w)) (c .before .before .before .before .args .y * c .before .before .before .before .args .w) n (c .before .before .before .before .args .out .now)) (omega arith)
+returns c =
+    let a = c .before .before .before .before .args in
+    c .before .loop .inv .0 ∙ ap (λ (n : ℕ). swept (veil (a .m .now) (a .w)) (a .y * a .w) n (a .out .now)) (omega arith)
 
 pub veil-row-spec : {M : Type 1} → statement M
 veil-row-spec =

@@ -24,10 +24,23 @@ cast-rows : tie.Need-cast-rows Inv-loop μ-loop
 cast-rows c = search needs
 
 loop-holds : tie.Need-loop-holds Inv-loop μ-loop
-loop-holds c = (rows-none (veil (c .before .before .before .before .args .m .now) (c .before .before .before .before .args .h .width)) (c .before .before .before .before .args .h .width) (c .before .before .before .before .args .out .now), refl, omega arith)
+loop-holds c =
+    let a = c .before .before .before .before .args in
+    (rows-none (veil (a .m .now) (a .h .width)) (a .h .width) (a .out .now), refl, omega arith)
 
 veil-row-requires : tie.Need-veil-row-requires Inv-loop μ-loop
-veil-row-requires c κs = (c .before .before .before .before .before .before .before .pre .0, (omega (arith, plane-row (c .before .before .before .before .before .before .before .args .h .width) (c .before .before .before .before .before .before .before .args .h .height) (c .before .before .loop .y) (c .before .loop-test .taken), c .before .before .before .before .before .before .before .pre .1 .0), omega (arith, row-room (c .before .before .before .before .before .before .before .args .h .width) (c .before .before .before .before .before .before .before .args .h .height) (c .before .before .loop .y) (length (c .before .before .before .before .before .before .before .args .out .now)) (c .before .loop-test .taken) (c .before .before .before .before .before .before .before .pre .1 .1), c .before .before .loop .inv .1)))
+veil-row-requires c κs =
+    let p = c .before .before .before .before .before .before .before .pre in
+    let a = c .before .before .before .before .before .before .before .args in
+    let l = c .before .before .loop in
+    let t = c .before .loop-test in (
+      p .0,
+      (
+        omega (arith, plane-row (a .h .width) (a .h .height) (l .y) (t .taken), p .1 .0),
+        omega
+            (arith, row-room (a .h .width) (a .h .height) (l .y) (length (a .out .now)) (t .taken) (p .1 .1), l .inv .1),
+      ),
+    )
 
 add-y : tie.Need-add-y Inv-loop μ-loop
 add-y c = omega arith
@@ -36,13 +49,24 @@ loop-less : tie.Need-loop-less Inv-loop μ-loop
 loop-less c = omega arith
 
 loop-again : tie.Need-loop-again Inv-loop μ-loop
-loop-again c = (row-turn (veil (c .before .before .before .before .before .before .before .before .before .before .args .m .now) (c .before .before .before .before .before .before .before .before .before .before .args .h .width)) (c .before .before .before .before .before .before .before .before .before .before .args .h .width) (c .before .before .before .before .before .loop .y) (c .before .before .before .before .before .before .before .before .before .before .args .out .now) (c .before .before .before .before .before .loop .inv .0) (c .before .before .veil-row .ensures), ap length (c .before .before .veil-row .ensures) ∙ swept-length (veil (c .before .before .before .before .before .before .before .before .before .before .args .m .now) (c .before .before .before .before .before .before .before .before .before .before .args .h .width)) _ _ _ ∙ c .before .before .before .before .before .loop .inv .1, omega arith)
+loop-again c =
+    let a = c .before .before .before .before .before .before .before .before .before .before .args in
+    let l = c .before .before .before .before .before .loop in
+    let veil-row = c .before .before .veil-row in (
+      row-turn (veil (a .m .now) (a .h .width)) (a .h .width) (l .y) (a .out .now) (l .inv .0) (veil-row .ensures),
+      ap length (veil-row .ensures)
+          ∙ swept-length (veil (a .m .now) (a .h .width)) _ _ _ ∙ l .inv .1,
+      omega arith,
+    )
 
 same-length : tie.Need-same-length Inv-loop μ-loop
 same-length c = c .before .loop .inv .1
 
 returns : tie.Need-returns Inv-loop μ-loop
-returns c = rows-all (veil (c .before .before .before .before .before .before .args .m .now) (c .before .before .before .before .before .before .args .h .width)) (c .before .before .before .before .before .before .args .h .width) (c .before .before .before .before .before .before .args .h .height) (c .before .loop .y) (c .before .before .before .before .before .before .args .out .now) (c .before .loop .inv .0) (c .before .loop .inv .2) (c .loop-test .left)
+returns c =
+    let a = c .before .before .before .before .before .before .args in
+    let l = c .before .loop in
+    rows-all (veil (a .m .now) (a .h .width)) (a .h .width) (a .h .height) (l .y) (a .out .now) (l .inv .0) (l .inv .2) (c .loop-test .left)
 
 pub veil-rows-spec : {M : Type 1} → statement M
 veil-rows-spec =

@@ -46,13 +46,26 @@ loop-less : tie.Need-loop-less Inv-loop μ-loop
 loop-less c = omega arith
 
 loop-again : tie.Need-loop-again Inv-loop μ-loop
-loop-again c = (flat-turn (painted (at565 (c .before .before .before .before .before .before .before .args .p .now))) (c .before .before .before .before .loop .i) (c .from-color .result) (c .before .before .before .before .before .before .before .args .out .now) (c .before .before .before .before .loop .inv .0) (is-565 (c .before .before .before .before .before .before .before .args .p .now) (c .before .before .before .before .before .before .before .args .levels5 .now) (c .before .before .before .before .before .before .before .args .levels6 .now) (c .before .before .before .before .loop .i) (c .before .before .u16-at .result) (c .from-color .result) _ (c .before .read565 .result) (c .before .before .before .before .before .before .before .pre .1 .1 .0) (c .before .before .before .before .before .before .before .pre .1 .1 .1) (c .before .before .u16-at .ensures .0) (c .before .read565 .ensures) (c .from-color .ensures)), simp length-set (c .before .before .before .before .loop .inv .1), omega arith)
+loop-again c =
+    let a = c .before .before .before .before .before .before .before .args in
+    let p = c .before .before .before .before .before .before .before .pre in
+    let l = c .before .before .before .before .loop in
+    let u16-at = c .before .before .u16-at in
+    let read565 = c .before .read565 in (
+      flat-turn (painted (at565 (a .p .now))) (l .i) (c .from-color .result) (a .out .now) (l .inv .0)
+          (is-565 (a .p .now) (a .levels5 .now) (a .levels6 .now) (l .i) (u16-at .result) (c .from-color .result) _ (read565 .result) (p .1 .1 .0)
+          (p .1 .1 .1) (u16-at .ensures .0) (read565 .ensures) (c .from-color .ensures)),
+      simp length-set (l .inv .1),
+      omega arith,
+    )
 
 same-length : tie.Need-same-length Inv-loop μ-loop
 same-length c = c .before .loop .inv .1
 
 returns : tie.Need-returns Inv-loop μ-loop
-returns c = c .before .loop .inv .0 ∙ ap (λ (n : ℕ). swept (painted (at565 (c .before .before .before .before .args .p .now))) 0 n (c .before .before .before .before .args .out .now)) (omega arith)
+returns c =
+    let a = c .before .before .before .before .args in
+    c .before .loop .inv .0 ∙ ap (λ (n : ℕ). swept (painted (at565 (a .p .now))) 0 n (a .out .now)) (omega arith)
 
 pub words565-spec : {M : Type 1} → statement M
 words565-spec =

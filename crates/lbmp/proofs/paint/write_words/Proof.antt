@@ -19,25 +19,65 @@ pixel-bytes-requires : tie.Need-pixel-bytes-requires
 pixel-bytes-requires c κs = (c .read-header .ensures, same-whole (c .read-header .ensures) (c .before .before .before .pre .0))
 
 paint-colors-requires : tie.Need-paint-colors-requires
-paint-colors-requires c κs = (same-whole (c .before .before .read-header .ensures) (c .before .before .before .before .before .pre .0) .fair, (ap length (c .before .pixel-bytes .ensures) ∙ pixels-length (c .before .before .before .before .before .args .file .now) (c .before .before .before .before .before .pre .0) ∙ sym (ap pixelSize (c .before .before .read-header .ensures)), omega (arith, same-pixels (c .before .before .before .before .before .args .file .now) (c .before .before .read-header .result) (c .before .before .read-header .ensures), c .before .before .before .before .before .pre .1)))
+paint-colors-requires c κs =
+    let p = c .before .before .before .before .before .pre in
+    let a = c .before .before .before .before .before .args in
+    let read-header = c .before .before .read-header in (
+      same-whole (read-header .ensures) (p .0) .fair,
+      (
+        ap length (c .before .pixel-bytes .ensures) ∙ pixels-length (a .file .now) (p .0)
+            ∙ sym (ap pixelSize (read-header .ensures)),
+        omega (arith, same-pixels (a .file .now) (read-header .result) (read-header .ensures), p .1),
+      ),
+    )
 
 mask-bytes-requires : tie.Need-mask-bytes-requires
-mask-bytes-requires c κs = (c .before .before .before .before .before .before .before .read-header .ensures, same-whole (c .before .before .before .before .before .before .before .read-header .ensures) (c .before .before .before .before .before .before .before .before .before .before .pre .0))
+mask-bytes-requires c κs =
+    let p = c .before .before .before .before .before .before .before .before .before .before .pre in
+    let read-header = c .before .before .before .before .before .before .before .read-header in
+    (read-header .ensures, same-whole (read-header .ensures) (p .0))
 
 veil-rows-requires : tie.Need-veil-rows-requires
-veil-rows-requires c κs = (same-whole (c .before .before .before .before .before .before .before .before .before .read-header .ensures) (c .before .before .before .before .before .before .before .before .before .before .before .before .pre .0) .fair .wide, (ap length (c .before .mask-bytes .ensures) ∙ mask-length (c .before .before .before .before .before .before .before .before .before .before .before .before .args .file .now) (c .before .before .before .before .before .before .before .before .before .before .before .before .pre .0) ∙ sym (ap maskSize (c .before .before .before .before .before .before .before .before .before .read-header .ensures)) ∙ mask-plane (c .before .before .before .before .before .before .before .before .before .read-header .result) (c .before .before .if1 .taken), omega (arith, same-pixels (c .before .before .before .before .before .before .before .before .before .before .before .before .args .file .now) (c .before .before .before .before .before .before .before .before .before .read-header .result) (c .before .before .before .before .before .before .before .before .before .read-header .ensures), c .before .before .before .before .before .before .before .before .before .before .before .before .pre .1, ap length (c .before .before .before .before .before .before .paint-colors .ensures) ∙ swept-length _ _ _ _)))
+veil-rows-requires c κs =
+    let p = c .before .before .before .before .before .before .before .before .before .before .before .before .pre in
+    let a = c .before .before .before .before .before .before .before .before .before .before .before .before .args in
+    let read-header = c .before .before .before .before .before .before .before .before .before .read-header in
+    let paint-colors = c .before .before .before .before .before .before .paint-colors in (
+      same-whole (read-header .ensures) (p .0) .fair .wide,
+      (
+        ap length (c .before .mask-bytes .ensures) ∙ mask-length (a .file .now) (p .0) ∙ sym (ap maskSize (read-header .ensures))
+            ∙ mask-plane (read-header .result) (c .before .before .if1 .taken),
+        omega
+            (arith, same-pixels (a .file .now) (read-header .result) (read-header .ensures), p .1, ap length (paint-colors .ensures) ∙ swept-length _ _ _ _),
+      ),
+    )
 
 same-length : tie.Need-same-length
 same-length c = search needs
 
 returns : tie.Need-returns
-returns c = written-masked (c .before .before .before .before .before .before .before .before .before .before .before .before .before .before .before .args .file .now) (c .before .before .before .before .before .before .before .before .before .before .before .before .before .before .before .args .out .now) _ _ (c .before .before .before .before .before .before .before .before .before .before .before .before .read-header .result) (c .before .before .before .before .before .before .before .before .before .before .before .before .before .before .before .pre .1) (c .before .before .before .before .before .before .before .before .before .before .before .before .read-header .ensures) (c .before .before .before .before .before .before .before .before .before .before .before .pixel-bytes .ensures) (c .before .before .before .before .before .before .before .before .before .paint-colors .ensures) _ _ (c .before .before .before .before .mask-bytes .ensures) (c .before .before .veil-rows .ensures)
+returns c =
+    let a = c .before .before .before .before .before .before .before .before .before .before .before .before .before .before .before .args in
+    let p = c .before .before .before .before .before .before .before .before .before .before .before .before .before .before .before .pre in
+    let read-header = c .before .before .before .before .before .before .before .before .before .before .before .before .read-header in
+    let pixel-bytes = c .before .before .before .before .before .before .before .before .before .before .before .pixel-bytes in
+    let paint-colors = c .before .before .before .before .before .before .before .before .before .paint-colors in
+    let mask-bytes = c .before .before .before .before .mask-bytes in
+    written-masked (a .file .now) (a .out .now) _ _ (read-header .result) (p .1) (read-header .ensures) (pixel-bytes .ensures) (paint-colors .ensures)
+    _ _ (mask-bytes .ensures) (c .before .before .veil-rows .ensures)
 
 same-length-2 : tie.Need-same-length-2
 same-length-2 c = search needs
 
 returns-2 : tie.Need-returns-2
-returns-2 c = written-plain (c .before .before .before .before .before .before .before .before .before .before .args .file .now) (c .before .before .before .before .before .before .before .before .before .before .args .out .now) _ _ (c .before .before .before .before .before .before .before .read-header .result) (c .before .before .before .before .before .before .before .before .before .before .pre .1) (c .before .before .before .before .before .before .before .read-header .ensures) (c .before .before .before .before .before .before .pixel-bytes .ensures) (c .before .before .before .before .paint-colors .ensures) (c .if1 .left)
+returns-2 c =
+    let a = c .before .before .before .before .before .before .before .before .before .before .args in
+    let p = c .before .before .before .before .before .before .before .before .before .before .pre in
+    let read-header = c .before .before .before .before .before .before .before .read-header in
+    let pixel-bytes = c .before .before .before .before .before .before .pixel-bytes in
+    let paint-colors = c .before .before .before .before .paint-colors in
+    written-plain (a .file .now) (a .out .now) _ _ (read-header .result) (p .1) (read-header .ensures) (pixel-bytes .ensures) (paint-colors .ensures)
+    (c .if1 .left)
 
 pub write-words-spec : {M : Type 1} → statement M
 write-words-spec =

@@ -13,7 +13,9 @@ returns : tie.Need-returns
 returns c = search needs
 
 returns-2 : tie.Need-returns-2
-returns-2 c = none-clear (c .before .before .before .args .m .now) (c .before .before .before .args .h .width) _ (sym (c .before .before .before .pre .0) ∙ mask-none (c .before .before .before .args .h) (c .if1 .left))
+returns-2 c =
+    let a = c .before .before .before .args in
+    none-clear (a .m .now) (a .h .width) _ (sym (c .before .before .before .pre .0) ∙ mask-none (a .h) (c .if1 .left))
 
 pub clear-of-spec : {M : Type 1} → statement M
 clear-of-spec = tie.close (tie.spec clear-in-requires returns returns-2)

@@ -18,7 +18,9 @@ abbrev μ-loop : tie.MeasureT-loop
 μ-loop m «from» to keep «before» n₀ i₀ n i = to - i
 
 loop-holds : tie.Need-loop-holds Inv-loop μ-loop
-loop-holds c = (count-none (λ k. ones (bitAnd (getD (c .before .args .m .now) (c .before .args .from + k) 0) (c .before .args .keep))) (c .before .args .before) (c .before .args .from), omega arith, omega arith, omega arith)
+loop-holds c =
+    let a = c .before .args in
+    (count-none (λ k. ones (bitAnd (getD (a .m .now) (a .from + k) 0) (a .keep))) (a .before) (a .from), omega arith, omega arith, omega arith)
 
 shared-slice-read-ones-of : tie.Need-shared-slice-read-ones-of Inv-loop μ-loop
 shared-slice-read-ones-of c = omega arith
@@ -36,10 +38,23 @@ loop-less : tie.Need-loop-less Inv-loop μ-loop
 loop-less c = omega arith
 
 loop-again : tie.Need-loop-again Inv-loop μ-loop
-loop-again c = (count-more (λ k. ones (bitAnd (getD (c .before .before .before .before .before .args .m .now) k 0) (c .before .before .before .before .before .args .keep))) (c .before .before .before .before .before .args .before) (c .before .before .before .before .before .args .from) (c .before .before .before .loop .i) (c .before .before .before .loop .n) (c .ones-of .result) (c .before .before .before .loop .inv .1) (c .before .before .before .loop .inv .0) (c .ones-of .ensures .0), omega arith, omega arith, omega arith)
+loop-again c =
+    let a = c .before .before .before .before .before .args in
+    let l = c .before .before .before .loop in (
+      count-more (λ k. ones (bitAnd (getD (a .m .now) k 0) (a .keep))) (a .before) (a .from) (l .i) (l .n) (c .ones-of .result) (l .inv .1) (l .inv .0)
+          (c .ones-of .ensures .0),
+      omega arith,
+      omega arith,
+      omega arith,
+    )
 
 returns : tie.Need-returns Inv-loop μ-loop
-returns c = (c .before .loop .inv .0 ∙ ap (λ (k : ℕ). c .before .before .before .args .before + total (λ j. ones (bitAnd (getD (c .before .before .before .args .m .now) (c .before .before .before .args .from + j) 0) (c .before .before .before .args .keep))) (k - c .before .before .before .args .from)) (omega arith), omega arith)
+returns c =
+    let a = c .before .before .before .args in (
+      c .before .loop .inv .0 ∙ ap (λ (k : ℕ). a .before + total (λ j. ones (bitAnd (getD (a .m .now) (a .from + j) 0) (a .keep))) (k - a .from))
+          (omega arith),
+      omega arith,
+    )
 
 pub count-ones-spec : {M : Type 1} → statement M
 count-ones-spec =

@@ -22,13 +22,18 @@ same-length : tie.Need-same-length
 same-length c = search needs
 
 returns : tie.Need-returns
-returns c = ap (λ (k : Reading). outcome k (c .before .before .before .before .before .before .decode-lbmp .last .1 .0)) (told-refused (c .before .before .before .before .before .before .decode-lbmp .result) _ (c .number .result) (c .before .before .j .given .1) (c .number .ensures)) ∙ c .before .before .before .before .before .before .decode-lbmp .ensures
+returns c =
+    let decode-lbmp = c .before .before .before .before .before .before .decode-lbmp in
+    ap (λ (k : Reading). outcome k (decode-lbmp .last .1 .0))
+    (told-refused (decode-lbmp .result) _ (c .number .result) (c .before .before .j .given .1) (c .number .ensures)) ∙ decode-lbmp .ensures
 
 same-length-2 : tie.Need-same-length-2
 same-length-2 c = search needs
 
 returns-2 : tie.Need-returns-2
-returns-2 c = ap (λ (k : Reading). outcome k (c .before .before .before .before .before .decode-lbmp .last .1 .0)) (told-sound (c .before .before .before .before .before .decode-lbmp .result) _ (c .before .j2 .given .1)) ∙ c .before .before .before .before .before .decode-lbmp .ensures
+returns-2 c =
+    let decode-lbmp = c .before .before .before .before .before .decode-lbmp in
+    ap (λ (k : Reading). outcome k (decode-lbmp .last .1 .0)) (told-sound (decode-lbmp .result) _ (c .before .j2 .given .1)) ∙ decode-lbmp .ensures
 
 pub tuyrashka-decode-lbmp-spec : {M : Type 1} → statement M
 tuyrashka-decode-lbmp-spec =
