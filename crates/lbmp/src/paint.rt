@@ -43,7 +43,7 @@ fn grey_word(high: u32, low: u32) -> u32
 
 // A row of greys.
 fn grey_row(high: &[u8], low: &[u8], w: usize, y: usize, out: &mut [u32])
-    requires { ⌜ (0 < w) × ((y / 8 * w + w ≤ length (now high)) × ((y / 8 * w + w ≤ length (now low)) × (y * w + w ≤ length (now out)))) ⌝ }
+    requires { ⌜ (y / 8 * w + w ≤ length (now high)) × ((y / 8 * w + w ≤ length (now low)) × (y * w + w ≤ length (now out))) ⌝ }
     ensures { λ _. ⌜ now (out .exit) ≡ swept (painted (greyAt (now (high .entry)) (now (low .entry)) w)) (y * w) w (now (out .entry)) ⌝ }
 {
     let base = y / 8 * w;
@@ -58,7 +58,7 @@ fn grey_row(high: &[u8], low: &[u8], w: usize, y: usize, out: &mut [u32])
 
 // Type 2.
 fn greys(p: &[u8], h: Header, out: &mut [u32])
-    requires { ⌜ (0 < h .width) × ((length (now p) ≡ 2 * planeSize (h .width) (h .height)) × (h .width * h .height ≤ length (now out))) ⌝ }
+    requires { ⌜ (length (now p) ≡ 2 * planeSize (h .width) (h .height)) × (h .width * h .height ≤ length (now out)) ⌝ }
     ensures { λ _. ⌜ now (out .exit) ≡ swept (painted (colorAt Greys (now (p .entry)) (planeSize (h .width) (h .height)) (h .width))) 0 (h .width * h .height) (now (out .entry)) ⌝ }
 {
     let n = p.len() / 2;
@@ -134,7 +134,7 @@ fn veiled_word(bit: u32, word: u32) -> u32
 
 // The mask over a row.
 fn veil_row(m: &[u8], w: usize, y: usize, out: &mut [u32])
-    requires { ⌜ (0 < w) × ((y / 8 * w + w ≤ length (now m)) × (y * w + w ≤ length (now out))) ⌝ }
+    requires { ⌜ (y / 8 * w + w ≤ length (now m)) × (y * w + w ≤ length (now out)) ⌝ }
     ensures { λ _. ⌜ now (out .exit) ≡ swept (veil (now (m .entry)) w) (y * w) w (now (out .entry)) ⌝ }
 {
     let base = y / 8 * w;
@@ -149,7 +149,7 @@ fn veil_row(m: &[u8], w: usize, y: usize, out: &mut [u32])
 
 // The mask over all the rows.
 fn veil_rows(m: &[u8], h: Header, out: &mut [u32])
-    requires { ⌜ (0 < h .width) × ((length (now m) ≡ planeSize (h .width) (h .height)) × (h .width * h .height ≤ length (now out))) ⌝ }
+    requires { ⌜ (length (now m) ≡ planeSize (h .width) (h .height)) × (h .width * h .height ≤ length (now out)) ⌝ }
     ensures { λ _. ⌜ now (out .exit) ≡ swept (veil (now (m .entry)) (h .width)) 0 (h .width * h .height) (now (out .entry)) ⌝ }
 {
     let w = h.width as usize;

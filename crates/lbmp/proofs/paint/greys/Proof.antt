@@ -54,25 +54,13 @@ grey-row-requires c κs =
     let p = c .before .before .before .before .before .before .before .before .before .pre in
     let a = c .before .before .before .before .before .before .before .before .before .args in
     let l = c .before .before .loop in
-    let t = c .before .loop-test in (
-      p .0,
+    let t = c .before .loop-test in
+    let n = planeSize (a .h .width) (a .h .height) in
+    let row = plane-row (a .h .width) (a .h .height) (l .y) (t .taken) in (
+      omega (arith, row, high-length (a .p .now) n (p .0)),
       (
-        omega (
-          arith,
-          plane-row (a .h .width) (a .h .height) (l .y) (t .taken),
-          high-length (a .p .now) (planeSize (a .h .width) (a .h .height))
-              (p .1 .0),
-        ),
-        (
-          omega (
-            arith,
-            plane-row (a .h .width) (a .h .height) (l .y) (t .taken),
-            low-length (a .p .now)
-                (planeSize (a .h .width) (a .h .height)) (p .1 .0),
-          ),
-          omega
-              (arith, row-room (a .h .width) (a .h .height) (l .y) (length (a .out .now)) (t .taken) (p .1 .1), l .inv .1),
-        ),
+        omega (arith, row, low-length (a .p .now) n (p .0)),
+        omega (arith, row-room (a .h .width) (a .h .height) (l .y) (length (a .out .now)) (t .taken) (p .1), l .inv .1),
       ),
     )
 
@@ -101,9 +89,9 @@ returns c =
     let a = c .before .before .before .before .before .before .before .before .args in
     let p = c .before .before .before .before .before .before .before .before .pre in
     let l = c .before .loop in
+    let n = planeSize (a .h .width) (a .h .height) in
     rows-all _ (a .h .width) (a .h .height) (l .y) (a .out .now) (l .inv .0) (l .inv .2) (c .loop-test .left)
-    ∙ greys-are (a .p .now) _ _ (a .out .now) (planeSize (a .h .width) (a .h .height)) (a .h .width) (a .h .width * a .h .height)
-    (high-is (a .p .now) (planeSize (a .h .width) (a .h .height)) (p .1 .0)) (low-is (a .p .now) (planeSize (a .h .width) (a .h .height)) (p .1 .0))
+    ∙ greys-are (a .p .now) _ _ (a .out .now) n (a .h .width) (a .h .width * a .h .height) (high-is (a .p .now) n (p .0)) (low-is (a .p .now) n (p .0))
 
 pub greys-spec : {M : Type 1} → statement M
 greys-spec =

@@ -33,11 +33,8 @@ unfolding imageSize expectedSize
 greys-requires c κs =
     let p = c .before .before .before .before .before .before .before .before .pre in
     let a = c .before .before .before .before .before .before .before .before .args in (
-      p .0 .wide,
-      (
-        p .1 .0 ∙ size-is (a .h) Greys (p .0) (sym (c .before .before .before .kind-of .ensures) ∙ c .before .enum-told .given .1),
-        p .1 .1,
-      ),
+      p .1 .0 ∙ size-is (a .h) Greys (p .0) (sym (c .before .before .before .kind-of .ensures) ∙ c .before .enum-told .given .1),
+      p .1 .1,
     )
 
 enum-told-2 : tie.Need-enum-told-2

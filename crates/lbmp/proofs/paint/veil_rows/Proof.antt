@@ -34,12 +34,8 @@ veil-row-requires c κs =
     let a = c .before .before .before .before .before .before .before .args in
     let l = c .before .before .loop in
     let t = c .before .loop-test in (
-      p .0,
-      (
-        omega (arith, plane-row (a .h .width) (a .h .height) (l .y) (t .taken), p .1 .0),
-        omega
-            (arith, row-room (a .h .width) (a .h .height) (l .y) (length (a .out .now)) (t .taken) (p .1 .1), l .inv .1),
-      ),
+      omega (arith, plane-row (a .h .width) (a .h .height) (l .y) (t .taken), p .0),
+      omega (arith, row-room (a .h .width) (a .h .height) (l .y) (length (a .out .now)) (t .taken) (p .1), l .inv .1),
     )
 
 add-y : tie.Need-add-y Inv-loop μ-loop

@@ -43,12 +43,13 @@ veil-rows-requires c κs =
     let a = c .before .before .before .before .before .before .before .before .before .before .before .before .args in
     let read-header = c .before .before .before .before .before .before .before .before .before .read-header in
     let paint-colors = c .before .before .before .before .before .before .paint-colors in (
-      same-whole (read-header .ensures) (p .0) .fair .wide,
-      (
-        ap length (c .before .mask-bytes .ensures) ∙ mask-length (a .file .now) (p .0) ∙ sym (ap maskSize (read-header .ensures))
-            ∙ mask-plane (read-header .result) (c .before .before .if1 .taken),
-        omega
-            (arith, same-pixels (a .file .now) (read-header .result) (read-header .ensures), p .1, ap length (paint-colors .ensures) ∙ swept-length _ _ _ _),
+      ap length (c .before .mask-bytes .ensures) ∙ mask-length (a .file .now) (p .0) ∙ sym (ap maskSize (read-header .ensures))
+          ∙ mask-plane (read-header .result) (c .before .before .if1 .taken),
+      omega (
+        arith,
+        same-pixels (a .file .now) (read-header .result) (read-header .ensures),
+        p .1,
+        ap length (paint-colors .ensures) ∙ swept-length _ _ _ _,
       ),
     )
 
