@@ -45,9 +45,9 @@ unfolding reads
 ruled-sound f i verdicts.Sound e = (refl, e)
 ruled-sound f i (verdicts.Faulty r) e = absurd (no-zero r (sym (ap (λ (k : Reading). k .status) e)))
 
-pub is-sound : (f : List ℕ) (j : Judged) (i : Image) → reads j ≡ judgement f → j ≡ Sound i → (verdict f ≡ verdicts.Sound) × (reads (Sound i) ≡ readingOf f)
+pub judged-sound : (f : List ℕ) (j : Judged) (i : Image) → reads j ≡ judgement f → j ≡ Sound i → (verdict f ≡ verdicts.Sound) × (reads (Sound i) ≡ readingOf f)
 unfolding judgement
-is-sound f j i e g = ruled-sound f i (verdict f) (sym (ap reads g) ∙ e)
+judged-sound f j i e g = ruled-sound f i (verdict f) (sym (ap reads g) ∙ e)
 
 pub its-pixels : (f : List ℕ) (i : Image) → reads (Sound i) ≡ readingOf f → i .width * i .height ≡ pixels f
 unfolding reads

@@ -3,7 +3,7 @@ use native.Mathlib.Omega.{arith}
 use borrow.Author.Needs.{needs}
 use Rattle.lbmp.proofs.planes.Sizes.{product-fits}
 use Rattle.lbmp.proofs.faults.Verdicts.{whole-file}
-use Rattle.lbmp.proofs.Answers.{is-sound, its-pixels, decode-refused, decode-room, decode-sound}
+use Rattle.lbmp.proofs.Answers.{judged-sound, its-pixels, decode-refused, decode-room, decode-sound}
 use Rattle.lbmp.proofs.decode_lbmp.Statement.{statement}
 use Rattle.lbmp.proofs.decode_lbmp.Tie as tie
 
@@ -38,7 +38,7 @@ returns-2 c =
     let a = c .before .before .before .before .before .before .before .before .before .args in
     let judge = c .before .before .before .before .before .before .judge in
     let j = c .before .before .before .before .j in
-    let s = is-sound (a .file .now) (judge .result) (j .given .0 .0) (judge .ensures) (j .given .1) in
+    let s = judged-sound (a .file .now) (judge .result) (j .given .0 .0) (judge .ensures) (j .given .1) in
     decode-room (a .file .now) (a .out .now) (s .0) (omega (arith, its-pixels (a .file .now) (j .given .0 .0) (s .1), c .if1 .taken))
 
 write-words-requires : tie.Need-write-words-requires
@@ -46,7 +46,7 @@ write-words-requires c κs =
     let a = c .before .before .before .before .before .before .before .before .before .before .args in
     let judge = c .before .before .before .before .before .before .before .judge in
     let j = c .before .before .before .before .before .j in
-    let s = is-sound (a .file .now) (judge .result) (j .given .0 .0) (judge .ensures) (j .given .1) in
+    let s = judged-sound (a .file .now) (judge .result) (j .given .0 .0) (judge .ensures) (j .given .1) in
     (whole-file (a .file .now) (s .0), omega (arith, its-pixels (a .file .now) (j .given .0 .0) (s .1), c .before .if1 .left))
 
 same-length : tie.Need-same-length
@@ -57,7 +57,7 @@ returns-3 c =
     let a = c .before .before .before .before .before .before .before .before .before .before .before .before .before .args in
     let judge = c .before .before .before .before .before .before .before .before .before .before .judge in
     let j = c .before .before .before .before .before .before .before .before .j in
-    let s = is-sound (a .file .now) (judge .result) (j .given .0 .0) (judge .ensures) (j .given .1) in
+    let s = judged-sound (a .file .now) (judge .result) (j .given .0 .0) (judge .ensures) (j .given .1) in
     decode-sound (a .file .now) (a .out .now) _ (j .given .0 .0) (s .0) (s .1)
     (omega (arith, its-pixels (a .file .now) (j .given .0 .0) (s .1), c .before .before .before .before .if1 .left))
     (c .before .before .write-words .ensures)
