@@ -24,7 +24,7 @@ bit-lt p w x y = mod-lt _ (omega arith)
 -- A plane of no bytes has no bit set.
 pub no-bit : (w x y : ℕ) → planeBit [] w x y ≡ 0
 unfolding planeBit
-no-bit w x y = ap (λ (b : ℕ). b % 2) (zero-div (2 ^ (y % 8)))
+no-bit w x y = ap (λ (b : ℕ). b % 2) (zero-div _)
 
 pub plane-at : (p : List ℕ) (w y x : ℕ) → x < w → planeAt p w (y * w + x) ≡ planeBit p w x y
 plane-at p w y x l = rw (digits-mod y l, digits-div y l) refl
