@@ -30,7 +30,7 @@ pub plane-at : (p : List ℕ) (w y x : ℕ) → x < w → planeAt p w (y * w + x
 plane-at p w y x l = rw (digits-mod y l, digits-div y l) refl
 
 -- The row s of the eight that a byte has.
-plane-eight : (p : List ℕ) (w x y s : ℕ) → s < 8 → planeBit p w x (y * 8 + s) ≡ getD p (y * w + x) 0 / 2 ^ s % 2
+pub plane-eight : (p : List ℕ) (w x y s : ℕ) → s < 8 → planeBit p w x (y * 8 + s) ≡ getD p (y * w + x) 0 / 2 ^ s % 2
 unfolding planeBit
 plane-eight p w x y s l = rw (digits-mod y l, digits-div y l) refl
 

@@ -1,17 +1,15 @@
 -- How large planes and parts are.
 use mathlib.Core.Path.{_≡_, refl}
-use mathlib.Core.Bool.{Bool, true, false, cond}
 use Prim.Native.Nat.{ℕ, _+_, _*_, _/_, _%_, _^_, _<_, _≤_}
 use native.Mathlib.Omega.{arith}
 use native.Mathlib.Nat.{mul-le-mul, mul-le-mul-right, mul-comm, add-mul, one-mul}
 use borrow.Author.Tests.{eq-eqb, ne-eqb}
-use lib.Dec.{eqb}
 use lib.Pow.{pow-pos, pow-mono}
 use Rattle.lbmp.specs.declared.header.Header.{Header}
 use Rattle.lbmp.specs.declared.header.Kind.{Kind}
 use Rattle.lbmp.specs.declared.header.Kind.the-variants.{Greys, Rgb332, Rgb565, Unknown}
 use Rattle.lbmp.specs.Plane.{planeSize}
-use Rattle.lbmp.specs.File.{expectedSize, imageSize, maskSize}
+use Rattle.lbmp.specs.File.{expectedSize, maskSize}
 
 -- The product of two numbers of 32 bits fits 64 bits.
 pub product-fits : (a b : ℕ) → a < 4294967296 → b < 4294967296 → a * b < 2 ^ 64
@@ -53,21 +51,6 @@ expected-le Greys w h = omega (arith, plane-le w h)
 expected-le Rgb332 w h = omega arith
 expected-le Rgb565 w h = omega arith
 expected-le Unknown w h = omega arith
-
-pub image-le : (k : Kind) (s : ℕ) → imageSize k s ≤ 2 * s
-unfolding imageSize
-image-le Greys s = omega arith
-image-le Rgb332 s = omega arith
-image-le Rgb565 s = omega arith
-image-le Unknown s = omega arith
-
-pub mask-le : (h : Header) → maskSize h ≤ planeSize (h .width) (h .height)
-unfolding maskSize
-mask-le h = by (eqb (h .mask) 1)
-  where
-    by : (t : Bool) → cond t (planeSize (h .width) (h .height)) 0 ≤ planeSize (h .width) (h .height)
-    by true = omega arith
-    by false = omega arith
 
 pub mask-plane : (h : Header) → h .mask ≡ 1 → maskSize h ≡ planeSize (h .width) (h .height)
 unfolding maskSize
