@@ -37,6 +37,14 @@ uint32_t tuyrashka_get_pixel(uint32_t format, uint32_t width, uint32_t height, b
                              const uint8_t *data, size_t data_len,
                              int32_t x, int32_t y, uint32_t *found, uint32_t *argb);
 
+/* Decodes an LBMP file to ARGB words, in rows: width times height of them, written to out; *clear is the number of
+ * transparent pixels. Returns 0, or 10 INVALID, 11 TYPE (not 2, 8 or 16), 12 ROOM (out_len, a number of words, is below
+ * that of the pixels); out then stays as it was, and *width, *height and *clear are 0. Words past the last pixel are
+ * not written. */
+uint32_t tuyrashka_decode_lbmp(const uint8_t *file, size_t file_len,
+                               uint32_t *out, size_t out_len,
+                               uint32_t *width, uint32_t *height, uint64_t *clear);
+
 #ifdef __cplusplus
 }
 #endif

@@ -3,6 +3,9 @@ ghost use mathlib.Core.Path.{_≡_};
 ghost use Rattle.canvas.specs.Call.{putPixel, fillRect, outcome, call};
 ghost use Rattle.canvas.specs.Look.{pixelAt};
 ghost use Rattle.tuyrashka.specs.Exported.{canvas, clip, color, told, tells};
+
+mod bitmap;
+
 use canvas::Canvas;
 use canvas::Clip;
 use canvas::Pixel;
