@@ -3,30 +3,25 @@ use mathlib.Core.Bool.{Bool, true, false, cond}
 use mathlib.Core.List.{List, [], _∷_, _++_}
 use mathlib.Core.Path.{_≡_, refl, sym, _∙_, ap}
 use Prim.Native.Nat.{ℕ, zero, suc, _+_, _*_, _/_, _-_, _^_, _<_, _≤_}
-use native.Mathlib.Nat.{div-lt-iff-lt-mul, le-div-iff-mul-le, mul-le-mul}
+use native.Mathlib.Decide.{decLe}
+use native.Mathlib.Nat.{div-lt-iff-lt-mul, le-div-iff-mul-le, mul-le-mul, lt-of-not-le}
 use native.Mathlib.Omega.{arith}
-use lib.Dec.{eqb, ltb}
-use lib.ListN.{length, drop, length-append}
+use lib.Dec.{ltb}
+use lib.ListN.{length, take, drop, length-append}
+use lib.Seq.{length-take-le}
 use borrow.Author.Tests.{le-leb, lt-leb, le-ltb}
-use types.Run.{OneOf, miss}
-use denote.Enum.Declared.{tagOf}
-use Rattle.cases.proofs.call.Call.{the-type}
 use Rattle.canvas.specs.declared.Canvas.{Canvas}
 use Rattle.words.specs.Format.{formatOf, bytesPerPixel}
-use Rattle.cases.specs.Line.{Value, value, none, wordsOf}
-use Rattle.cases.specs.Place.{leftAt, read, sown, readSeed, pairs, readHead}
-use Rattle.cases.specs.Number.{numberOf}
-use Rattle.cases.specs.Call.{callOf}
+use Rattle.cases.specs.Line.{Left, words, lost, Value, value, none, got, wordsOf}
+use Rattle.cases.specs.Place.{leftAt, sown, readSeed, pairs, readScreen, readRow}
+use Rattle.cases.specs.Call.{Asked, rowOf}
 use Rattle.cases.specs.Seed.{Sown, seedOf, firstBytes}
-use Rattle.cases.specs.Case.{headOf, exactly, lent, fitting, capped, laid, isBad, called, caseOf}
-use Rattle.cases.specs.declared.call.Call.{Call}
-use Rattle.cases.specs.declared.call.Call.the-variants.{Put, Get, Fill}
-use Rattle.cases.specs.declared.case.Case.{Case}
-use Rattle.cases.specs.declared.case.Case.the-variants.{Of}
-use Rattle.cases.specs.declared.case.Head.{Head}
-use Rattle.cases.specs.declared.number.Number.{Number}
+use Rattle.cases.specs.Case.{headOf, exactly, lent, fitting, capped, whole, Outcome, laid, called, caseOf}
+use Rattle.cases.specs.declared.args.Screened.{Screened}
+use Rattle.cases.specs.declared.call.Row.{Row}
+use Rattle.cases.specs.declared.case.Case.the-variants.{Bad, Of}
 use Rattle.cases.specs.declared.seed.Seeded.{Seeded}
-use Rattle.cases.proofs.Reading.{inside}
+use Rattle.cases.proofs.Reading.{inside, finished, gone}
 
 pub four : (f : ℕ) → (f ≡ 0 → ⊥) → (f ≡ 1 → ⊥) → f < 5 → 4 ≡ bytesPerPixel (formatOf f)
 unfolding formatOf bytesPerPixel
@@ -101,51 +96,69 @@ unfolding pairs
 length-pairs line from zero = refl
 length-pairs line from (suc n) = rw (length-append, length-pairs line from n) (omega arith)
 
-pub head-is : (line : List ℕ) (f w h x : Number) → read line f ≡ numberOf 4294967295 (leftAt line 0)
-    → read line w ≡ numberOf 4294967295 (leftAt line (f .next)) → read line h ≡ numberOf 4294967295 (leftAt line (w .next))
-    → read line x ≡ numberOf 1 (leftAt line (h .next))
-    → readHead line
-    (record { canvas = record { format = f .value; width = w .value; height = h .value; xor = eqb (x .value) 1 }; next = x .next })
-    ≡ headOf (wordsOf line)
-unfolding headOf
-head-is line f w h x e₁ e₂ e₃ e₄ = rw (← inside line 0 (omega arith), ← e₁, ← e₂, ← e₃, ← e₄)
-
--- The head, the seed and the call one after the other are the case.
-pub case-is : (line bytes : List ℕ) (h : Head) (s : Seeded) (c : Call) → readHead line h ≡ headOf (wordsOf line)
-    → readSeed line s ≡ seedOf (leftAt line (h .next)) → c ≡ callOf (leftAt line (s .next))
-    → called (h .canvas) (sown line (s .seed)) c bytes ≡ caseOf line bytes
+-- The head, the seed and the row one after the other are the case.
+pub case-is : (line bytes image : List ℕ) (h : Screened) (s : Seeded) (r : Row) → readScreen line h ≡ headOf (wordsOf line)
+    → readSeed line s ≡ seedOf (leftAt line (h .next)) → readRow line r ≡ rowOf (leftAt line (s .next))
+    → called (h .canvas) (sown line (s .seed)) (readRow line r) bytes image ≡ caseOf line bytes image
 unfolding caseOf
-case-is line bytes h s c e f g = rw (← e, ← f, ← g)
+case-is line bytes image h s r e f g = rw (← e, ← f, ← g)
 
-module _ (v : Canvas) (s : Sown) (c : Call) (bytes : List ℕ) where
-  pub bad-call : isBad c ≡ true → (Case.Bad, bytes) ≡ called v s c bytes
+-- A row is whole where its last word is the line's last.
+is-whole : {A : Type 0} (line : List ℕ) (i : ℕ) (a b : A) → i ≡ length line + 1 → whole (leftAt line i) a b ≡ a
+unfolding whole
+is-whole line i a b e = rw (finished line i e)
+
+not-whole-by : {A : Type 0} (line : List ℕ) (i : ℕ) (a b : A) → (i ≡ length line + 1 → ⊥) → Dec (i ≤ length line) → whole (leftAt line i) a b ≡ b
+unfolding whole wordsOf
+not-whole-by line i a b n (yes l) = rw (inside line i l)
+not-whole-by line i a b n (no m) = let l : length line < i = lt-of-not-le m in rw (gone line i (omega (arith, n)))
+
+not-whole : {A : Type 0} (line : List ℕ) (i : ℕ) (a b : A) → (i ≡ length line + 1 → ⊥) → whole (leftAt line i) a b ≡ b
+not-whole line i a b n = not-whole-by line i a b n (decLe i (length line))
+
+same-either : {A : Type 0} (l : Left) (a : A) → whole l a a ≡ a
+unfolding whole
+same-either (words []) a = refl
+same-either (words (w ∷ ws)) a = refl
+same-either lost a = refl
+
+module _ (line : List ℕ) (v : Canvas) (s : Sown) (a : Asked) (i : ℕ) (bytes image : List ℕ) where
+  abbrev bad : Outcome
+  bad = (Bad, bytes, image)
+
+  pub bad-row : (i ≡ length line + 1 → ⊥) → bad ≡ called v s (got a (leftAt line i)) bytes image
   unfolding called
-  bad-call e = rw e
+  bad-row n = sym (not-whole line i _ bad n)
 
-  no-room : Bool → Value ℕ → Case × List ℕ
-  no-room b n = cond b (Case.Bad, bytes) (laid v c s n bytes)
+  without : Value ℕ → Value ℕ → Outcome
+  without n m = whole (leftAt line i) (laid v s a n m bytes image) bad
 
-  always : (b : Bool) → (Case.Bad, bytes) ≡ no-room b none
-  unfolding laid no-room
-  always true = refl
-  always false = refl
+  first-none : (m : Value ℕ) → bad ≡ without none m
+  unfolding laid without
+  first-none m = sym (same-either (leftAt line i) bad)
 
-  pub bad-room : (n : ℕ) → fitting (length bytes) n ≡ capped (length bytes) (lent v s) → length bytes < n → (Case.Bad, bytes) ≡ called v s c bytes
-  unfolding called no-room
-  bad-room n e h = always (isBad c) ∙ ap (no-room (isBad c)) (sym (over (length bytes) n h) ∙ e)
+  second-none : (n : Value ℕ) → bad ≡ without n none
+  unfolding laid without
+  second-none (value n) = sym (same-either (leftAt line i) bad)
+  second-none none = sym (same-either (leftAt line i) bad)
 
-  pub good : (n : ℕ) → fitting (length bytes) n ≡ capped (length bytes) (lent v s) → n ≤ length bytes → isBad c ≡ false
-      → (Of v n c, firstBytes s n ++ drop n bytes) ≡ called v s c bytes
+  pub bad-room : (n : ℕ) → fitting (length bytes) n ≡ capped (length bytes) (lent v s) → length bytes < n
+      → bad ≡ called v s (got a (leftAt line i)) bytes image
+  unfolding called without
+  bad-room n e h =
+      let m = capped (length image) (lent (a .source) (a .seed)) in
+      first-none m ∙ ap (λ (x : Value ℕ). without x m) (sym (over (length bytes) n h) ∙ e)
+
+  pub bad-image : (m : ℕ) → fitting (length image) m ≡ capped (length image) (lent (a .source) (a .seed)) → length image < m
+      → bad ≡ called v s (got a (leftAt line i)) bytes image
+  unfolding called without
+  bad-image m e h = second-none _ ∙ ap (without _) (sym (over (length image) m h) ∙ e)
+
+  pub good : (n m : ℕ) {t u : List ℕ} → fitting (length bytes) n ≡ capped (length bytes) (lent v s) → n ≤ length bytes
+      → fitting (length image) m ≡ capped (length image) (lent (a .source) (a .seed)) → m ≤ length image → i ≡ length line + 1
+      → t ≡ firstBytes s (length (take n bytes)) → u ≡ firstBytes (a .seed) (length (take m image))
+      → (Of v n (a .call) m, t ++ drop n bytes, u ++ drop m image) ≡ called v s (got a (leftAt line i)) bytes image
   unfolding called laid fitting
-  good n e h b = rw (b, ← e, le-leb n (length bytes) h)
-
--- A call that is some row of the table is not bad.
-abbrev pub rows : List ℕ
-rows = 1 ∷ 2 ∷ 3 ∷ []
-
-pub some-call : (c : Call) → OneOf rows (tagOf the-type c) → isBad c ≡ false
-unfolding isBad
-some-call Call.Bad k = absurd (miss rows 0 tt k)
-some-call (Put x y c k) t = refl
-some-call (Get x y) t = refl
-some-call (Fill x y w h c k) t = refl
+  good n m e h f k w p q =
+      rw (p, q, length-take-le n bytes h, length-take-le m image k)
+      (sym (is-whole line i _ bad w ∙ rw (← e, ← f, le-leb n (length bytes) h, le-leb m (length image) k)))

@@ -13,7 +13,7 @@ use borrow.Author.Tests.{lt-ltb, le-ltb, ltb-false}
 use Rattle.cases.specs.Answer.{glyph, spelled, places, decimal, hex, nameText, statusText, foundText, hashText, placed, lineOf, answered}
 use Rattle.cases.specs.Place.{Wrote}
 use Rattle.cases.specs.declared.answer.Name.{Name}
-use Rattle.cases.specs.declared.answer.Name.the-variants.{Put, Get, Fill}
+use Rattle.cases.specs.declared.answer.Name.the-variants.{Put, Get, Rect, Fill, Invert, Copy, Draw}
 use Rattle.cases.specs.declared.answer.Found.{Found}
 use Rattle.cases.specs.declared.answer.Found.the-variants.{Count, Argb, Nothing}
 use Rattle.cases.specs.declared.answer.Answer.{Answer}
@@ -109,7 +109,11 @@ name-most : (n : Name) → length (nameText n) ≤ 8
 unfolding nameText
 name-most Put = lit≤ tt
 name-most Get = lit≤ tt
+name-most Rect = lit≤ tt
 name-most Fill = lit≤ tt
+name-most Invert = lit≤ tt
+name-most Copy = lit≤ tt
+name-most Draw = lit≤ tt
 
 status-most : (n : ℕ) → length (statusText n) ≤ 28
 unfolding statusText

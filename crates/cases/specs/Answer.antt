@@ -4,9 +4,9 @@ use mathlib.Core.List.{List, [], _∷_, _++_}
 use Prim.Native.Nat.{ℕ, zero, suc, _+_, _/_, _%_}
 use lib.Dec.{ltb}
 use lib.ListN.{length, set}
-use Rattle.cases.specs.Call.{put, get, fill}
+use Rattle.cases.specs.Call.{put, get, rect, fill, invert, copy, draw}
 use Rattle.cases.specs.declared.answer.Name.{Name}
-use Rattle.cases.specs.declared.answer.Name.the-variants.{Put, Get, Fill}
+use Rattle.cases.specs.declared.answer.Name.the-variants.{Put, Get, Rect, Fill, Invert, Copy, Draw}
 use Rattle.cases.specs.declared.answer.Found.{Found}
 use Rattle.cases.specs.declared.answer.Found.the-variants.{Count, Argb, Nothing}
 use Rattle.cases.specs.declared.answer.Answer.{Answer}
@@ -36,7 +36,11 @@ hex n = spelled 16 16 n
 unfoldable pub nameText : Name → List ℕ
 nameText Put = put
 nameText Get = get
+nameText Rect = rect
 nameText Fill = fill
+nameText Invert = invert
+nameText Copy = copy
+nameText Draw = draw
 
 -- "count=N"; "`get` has `argb=N` in the place of count, or `none`."
 unfoldable pub foundText : Found → List ℕ

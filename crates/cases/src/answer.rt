@@ -10,7 +10,11 @@ ghost use Rattle.cases.specs.Answer.{glyph as glyphOf, places as placesO
 pub enum Name {
     Put,
     Get,
+    Rect,
     Fill,
+    Invert,
+    Copy,
+    Draw,
 }
 
 // What a call found: how many plots landed, a colour, or nothing.
@@ -110,7 +114,11 @@ fn put_name(out: &mut [u8], n: Name) -> usize
     match n {
         Name::Put => put_text(out, 0, b"put"),
         Name::Get => put_text(out, 0, b"get"),
+        Name::Rect => put_text(out, 0, b"rect"),
         Name::Fill => put_text(out, 0, b"fill"),
+        Name::Invert => put_text(out, 0, b"invert"),
+        Name::Copy => put_text(out, 0, b"copy"),
+        Name::Draw => put_text(out, 0, b"draw"),
     }
 }
 

@@ -1,7 +1,7 @@
 -- `put_name` puts the name's letters.
 use native.Mathlib.Omega.{arith}
-use borrow.Author.Needs.{needs}
 use Rattle.cases.specs.Answer.{nameText}
+use borrow.Author.Needs.{needs}
 use Rattle.cases.proofs.answer.put_name.Statement.{statement}
 use Rattle.cases.proofs.answer.put_name.Tie as tie
 
@@ -32,6 +32,42 @@ slice-aggregate-put-text-3 c = search needs
 put-text-requires-3 : tie.Need-put-text-requires-3
 put-text-requires-3 c κs = search needs
 
+enum-told-4 : tie.Need-enum-told-4
+enum-told-4 c = search needs
+
+slice-aggregate-put-text-4 : tie.Need-slice-aggregate-put-text-4
+slice-aggregate-put-text-4 c = search needs
+
+put-text-requires-4 : tie.Need-put-text-requires-4
+put-text-requires-4 c κs = search needs
+
+enum-told-5 : tie.Need-enum-told-5
+enum-told-5 c = search needs
+
+slice-aggregate-put-text-5 : tie.Need-slice-aggregate-put-text-5
+slice-aggregate-put-text-5 c = search needs
+
+put-text-requires-5 : tie.Need-put-text-requires-5
+put-text-requires-5 c κs = search needs
+
+enum-told-6 : tie.Need-enum-told-6
+enum-told-6 c = search needs
+
+slice-aggregate-put-text-6 : tie.Need-slice-aggregate-put-text-6
+slice-aggregate-put-text-6 c = search needs
+
+put-text-requires-6 : tie.Need-put-text-requires-6
+put-text-requires-6 c κs = search needs
+
+enum-told-7 : tie.Need-enum-told-7
+enum-told-7 c = search needs
+
+slice-aggregate-put-text-7 : tie.Need-slice-aggregate-put-text-7
+slice-aggregate-put-text-7 c = search needs
+
+put-text-requires-7 : tie.Need-put-text-requires-7
+put-text-requires-7 c κs = search needs
+
 same-length : tie.Need-same-length
 same-length c = search needs
 
@@ -53,6 +89,34 @@ returns-3 : tie.Need-returns-3
 unfolding nameText
 returns-3 c = (rw (c .before .before .before .before .before .enum-told3 .given .1) (c .before .before .put-text3 .ensures), omega (arith, c .before .before .put-text3 .ensures .to))
 
+same-length-4 : tie.Need-same-length-4
+same-length-4 c = search needs
+
+returns-4 : tie.Need-returns-4
+unfolding nameText
+returns-4 c = (rw (c .before .before .before .before .before .enum-told4 .given .1) (c .before .before .put-text4 .ensures), omega (arith, c .before .before .put-text4 .ensures .to))
+
+same-length-5 : tie.Need-same-length-5
+same-length-5 c = search needs
+
+returns-5 : tie.Need-returns-5
+unfolding nameText
+returns-5 c = (rw (c .before .before .before .before .before .enum-told5 .given .1) (c .before .before .put-text5 .ensures), omega (arith, c .before .before .put-text5 .ensures .to))
+
+same-length-6 : tie.Need-same-length-6
+same-length-6 c = search needs
+
+returns-6 : tie.Need-returns-6
+unfolding nameText
+returns-6 c = (rw (c .before .before .before .before .before .enum-told6 .given .1) (c .before .before .put-text6 .ensures), omega (arith, c .before .before .put-text6 .ensures .to))
+
+same-length-7 : tie.Need-same-length-7
+same-length-7 c = search needs
+
+returns-7 : tie.Need-returns-7
+unfolding nameText
+returns-7 c = (rw (c .before .before .before .before .before .enum-told7 .given .1) (c .before .before .put-text7 .ensures), omega (arith, c .before .before .put-text7 .ensures .to))
+
 pub put-name-spec : {M : Type 1} → statement M
 put-name-spec =
     tie.close
@@ -66,9 +130,29 @@ put-name-spec =
     enum-told-3
     slice-aggregate-put-text-3
     put-text-requires-3
+    enum-told-4
+    slice-aggregate-put-text-4
+    put-text-requires-4
+    enum-told-5
+    slice-aggregate-put-text-5
+    put-text-requires-5
+    enum-told-6
+    slice-aggregate-put-text-6
+    put-text-requires-6
+    enum-told-7
+    slice-aggregate-put-text-7
+    put-text-requires-7
     same-length
     returns
     same-length-2
     returns-2
     same-length-3
-    returns-3)
+    returns-3
+    same-length-4
+    returns-4
+    same-length-5
+    returns-5
+    same-length-6
+    returns-6
+    same-length-7
+    returns-7)
