@@ -1,6 +1,7 @@
 //! The fixed list of cases: the edges first and in order, then the colours, then some random ones.
 
 mod boxes;
+mod files;
 mod images;
 
 use std::collections::HashSet;
@@ -26,6 +27,7 @@ pub fn fixed(ops: &[&'static str]) -> Vec<String> {
             "copy" => images::copy(&mut list),
             "invert" => boxes::invert(&mut list),
             "draw" => images::draw(&mut list),
+            "lbmp" => files::lbmp(&mut list),
             _ => continue,
         }
         refused(op, &mut list);

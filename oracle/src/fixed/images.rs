@@ -104,7 +104,9 @@ pub fn draw(list: &mut Vec<String>) {
         }
     }
     // What can just be read, and what can not.
-    for source in ["0 1 1 z", "0 1 1 x", "0 1 1 Z", "0 1 1", "0 1 1 z 0", "5 1 1 z", "5 1 1 x00", "4 512 512 z", "4 512 513 z", "-1 1 1 z"] {
+    for source in
+        ["0 1 1 z", "0 1 1 x", "0 1 1 Z", "0 1 1", "0 1 1 z 0", "5 1 1 z", "5 1 1 x00", "4 512 512 z", "4 512 513 z", "-1 1 1 z"]
+    {
         list.push(format!("0 1 1 0 z {}", args(source)));
     }
 }
@@ -125,7 +127,13 @@ fn places(list: &mut Vec<String>) {
             list.push(format!("{xored} draw {} {} 4 4 {veiled} {} {} 0 0 4 3", 2 * x, 2 * y, 2 * a, 2 * b));
         }
         for far in [MIN, MAX] {
-            list.push(format!("{plain} draw {} {} {MOST} {MOST} {veiled} {} {} {MIN} {MIN} {MOST} {MOST}", x * far, y * far, -x, -y));
+            list.push(format!(
+                "{plain} draw {} {} {MOST} {MOST} {veiled} {} {} {MIN} {MIN} {MOST} {MOST}",
+                (x * far).min(MAX),
+                (y * far).min(MAX),
+                -x,
+                -y
+            ));
             list.push(format!("{plain} draw {x} {y} {MOST} {MOST} {veiled} {far} {far} {MIN} {MIN} {MOST} {MOST}"));
         }
     }
