@@ -7,6 +7,7 @@ use Rattle.cases.specs.Case.{Outcome}
 use Rattle.cases.proofs.answer.write.Reads as write
 use Rattle.cases.proofs.case.read.Reads as read
 use Rattle.cases.proofs.fnv.hash.Reads as hash
+use Rattle.cases.proofs.fnv.hash_words.Reads as hash-words
 
 pub read-determined : (κs : _) (a : _) (s s' : _) (r r' : _) → read.Post κs a r s → read.Post κs a r' s' → (r ≡ r') × (now (s .1 .0) ≡ now (s' .1 .0)) × (now (s .1 .1 .0) ≡ now (s' .1 .1 .0))
 read-determined κs a s s' r r' p q =
@@ -17,3 +18,6 @@ write-determined κs a s s' r r' p q = (ap (λ (x : ℕ × List ℕ). x .0) (p �
 
 pub hash-determined : (κs : _) (a : _) (s s' : _) (r r' : _) → hash.Post κs a r s → hash.Post κs a r' s' → r ≡ r'
 hash-determined κs a s s' r r' p q = p ∙ sym q
+
+pub hash-words-determined : (κs : _) (a : _) (s s' : _) (r r' : _) → hash-words.Post κs a r s → hash-words.Post κs a r' s' → r ≡ r'
+hash-words-determined κs a s s' r r' p q = p ∙ sym q

@@ -86,6 +86,9 @@ copy = 99 ∷ 111 ∷ 112 ∷ 121 ∷ []
 abbrev pub draw : List ℕ
 draw = 100 ∷ 114 ∷ 97 ∷ 119 ∷ []
 
+abbrev pub lbmp : List ℕ
+lbmp = 108 ∷ 98 ∷ 109 ∷ 112 ∷ []
+
 -- The row of a name where that is the first word, and else another.
 abbrev pub row : List ℕ → (Left → Got Asked) → Left → Got Asked → Got Asked
 row n f l g = orElse (named n l) (f (named n l)) g

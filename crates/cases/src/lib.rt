@@ -19,3 +19,4 @@ pub use call::Call;
 pub use case::Case;
 pub use case::read;
 pub use fnv::hash;
+pub use fnv::hash_words;

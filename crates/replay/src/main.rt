@@ -40,7 +40,7 @@ fn step(line: &[u8], bytes: &mut [u8], image: &mut [u8], out: &mut [u8], used: u
     requires { ⌜ used ≤ length (now out) ⌝ }
     ensures { λ r. ⌜ r ≤ length (now (out .entry)) ⌝ }
 {
-    if used + 96 <= out.len() {
+    if used + 132 <= out.len() {
         let n = answer(line, bytes, image, &mut out[used..]);
         return used + n;
     }
