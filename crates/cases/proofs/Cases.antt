@@ -1,5 +1,5 @@
 -- The bytes that a canvas has fit the room exactly where its area is at most the room divided by a pixel's size.
-use mathlib.Core.Bool.{Bool, true, false, cond}
+use mathlib.Core.Bool.{true, false}
 use mathlib.Core.List.{List, [], _∷_, _++_}
 use mathlib.Core.Path.{_≡_, refl, sym, _∙_, ap}
 use Prim.Native.Nat.{ℕ, zero, suc, _+_, _*_, _/_, _-_, _^_, _<_, _≤_}
@@ -96,13 +96,6 @@ unfolding pairs
 length-pairs line from zero = refl
 length-pairs line from (suc n) = rw (length-append, length-pairs line from n) (omega arith)
 
--- The head, the seed and the row one after the other are the case.
-pub case-is : (line bytes image : List ℕ) (h : Screened) (s : Seeded) (r : Row) → readScreen line h ≡ headOf (wordsOf line)
-    → readSeed line s ≡ seedOf (leftAt line (h .next)) → readRow line r ≡ rowOf (leftAt line (s .next))
-    → called (h .canvas) (sown line (s .seed)) (readRow line r) bytes image ≡ caseOf line bytes image
-unfolding caseOf
-case-is line bytes image h s r e f g = rw (← e, ← f, ← g)
-
 -- A row is whole where its last word is the line's last.
 is-whole : {A : Type 0} (line : List ℕ) (i : ℕ) (a b : A) → i ≡ length line + 1 → whole (leftAt line i) a b ≡ a
 unfolding whole
@@ -126,7 +119,7 @@ module _ (line : List ℕ) (v : Canvas) (s : Sown) (a : Asked) (i : ℕ) (bytes 
   abbrev bad : Outcome
   bad = (Bad, bytes, image)
 
-  pub bad-row : (i ≡ length line + 1 → ⊥) → bad ≡ called v s (got a (leftAt line i)) bytes image
+  bad-row : (i ≡ length line + 1 → ⊥) → bad ≡ called v s (got a (leftAt line i)) bytes image
   unfolding called
   bad-row n = sym (not-whole line i _ bad n)
 
@@ -142,19 +135,19 @@ module _ (line : List ℕ) (v : Canvas) (s : Sown) (a : Asked) (i : ℕ) (bytes 
   second-none (value n) = sym (same-either (leftAt line i) bad)
   second-none none = sym (same-either (leftAt line i) bad)
 
-  pub bad-room : (n : ℕ) → fitting (length bytes) n ≡ capped (length bytes) (lent v s) → length bytes < n
+  bad-room : (n : ℕ) → fitting (length bytes) n ≡ capped (length bytes) (lent v s) → length bytes < n
       → bad ≡ called v s (got a (leftAt line i)) bytes image
   unfolding called without
   bad-room n e h =
       let m = capped (length image) (lent (a .source) (a .seed)) in
       first-none m ∙ ap (λ (x : Value ℕ). without x m) (sym (over (length bytes) n h) ∙ e)
 
-  pub bad-image : (m : ℕ) → fitting (length image) m ≡ capped (length image) (lent (a .source) (a .seed)) → length image < m
+  bad-image : (m : ℕ) → fitting (length image) m ≡ capped (length image) (lent (a .source) (a .seed)) → length image < m
       → bad ≡ called v s (got a (leftAt line i)) bytes image
   unfolding called without
   bad-image m e h = second-none _ ∙ ap (without _) (sym (over (length image) m h) ∙ e)
 
-  pub good : (n m : ℕ) {t u : List ℕ} → fitting (length bytes) n ≡ capped (length bytes) (lent v s) → n ≤ length bytes
+  good : (n m : ℕ) {t u : List ℕ} → fitting (length bytes) n ≡ capped (length bytes) (lent v s) → n ≤ length bytes
       → fitting (length image) m ≡ capped (length image) (lent (a .source) (a .seed)) → m ≤ length image → i ≡ length line + 1
       → t ≡ firstBytes s (length (take n bytes)) → u ≡ firstBytes (a .seed) (length (take m image))
       → (Of v n (a .call) m, t ++ drop n bytes, u ++ drop m image) ≡ called v s (got a (leftAt line i)) bytes image
@@ -162,3 +155,33 @@ module _ (line : List ℕ) (v : Canvas) (s : Sown) (a : Asked) (i : ℕ) (bytes 
   good n m e h f k w p q =
       rw (p, q, length-take-le n bytes h, length-take-le m image k)
       (sym (is-whole line i _ bad w ∙ rw (← e, ← f, le-leb n (length bytes) h, le-leb m (length image) k)))
+
+-- The head, the seed and the row one after the other are the case.
+module _ (line bytes image : List ℕ) (h : Screened) (s : Seeded) (r : Row) (e : readScreen line h ≡ headOf (wordsOf line))
+    (f : readSeed line s ≡ seedOf (leftAt line (h .next))) (g : readRow line r ≡ rowOf (leftAt line (s .next))) where
+  abbrev seed : Sown
+  seed = sown line (s .seed)
+
+  abbrev asked : Asked
+  asked = readRow line r .value
+
+  case-is : called (h .canvas) seed (readRow line r) bytes image ≡ caseOf line bytes image
+  unfolding caseOf
+  case-is = rw (← e, ← f, ← g)
+
+  pub no-row-ends : (r .next ≡ length line + 1 → ⊥) → (Bad, bytes, image) ≡ caseOf line bytes image
+  no-row-ends n = bad-row line (h .canvas) seed asked (r .next) bytes image n ∙ case-is
+
+  pub no-room : (n : ℕ) → fitting (length bytes) n ≡ capped (length bytes) (lent (h .canvas) seed) → length bytes < n
+      → (Bad, bytes, image) ≡ caseOf line bytes image
+  no-room n p l = bad-room line (h .canvas) seed asked (r .next) bytes image n p l ∙ case-is
+
+  pub no-image-room : (m : ℕ) → fitting (length image) m ≡ capped (length image) (lent (r .source) (asked .seed)) → length image < m
+      → (Bad, bytes, image) ≡ caseOf line bytes image
+  no-image-room m p l = bad-image line (h .canvas) seed asked (r .next) bytes image m p l ∙ case-is
+
+  pub laid-out : (n m : ℕ) {t u : List ℕ} → fitting (length bytes) n ≡ capped (length bytes) (lent (h .canvas) seed) → n ≤ length bytes
+      → fitting (length image) m ≡ capped (length image) (lent (r .source) (asked .seed)) → m ≤ length image → r .next ≡ length line + 1
+      → t ≡ firstBytes seed (length (take n bytes)) → u ≡ firstBytes (asked .seed) (length (take m image))
+      → (Of (h .canvas) n (r .call) m, t ++ drop n bytes, u ++ drop m image) ≡ caseOf line bytes image
+  laid-out n m p k q l w x y = good line (h .canvas) seed asked (r .next) bytes image n m p k q l w x y ∙ case-is

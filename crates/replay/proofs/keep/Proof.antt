@@ -13,13 +13,23 @@ slice-aggregate-lines : tie.Need-slice-aggregate-lines
 slice-aggregate-lines c = sym (length-take-le _ _ (c .before .before .before .before .before .pre .0 .1))
 
 lines-requires : tie.Need-lines-requires
-lines-requires c κs = (omega (arith, c .before .before .before .before .before .before .before .before .pre .0 .0, length-take-le (c .before .before .before .before .before .before .before .before .args .end) (c .before .before .before .before .before .before .before .before .args .text .now) (c .before .before .before .before .before .before .before .before .pre .0 .1)), c .before .before .before .before .before .before .before .before .pre .1)
+lines-requires c κs =
+    let pre = c .before .before .before .before .before .before .before .before .pre in
+    let a = c .before .before .before .before .before .before .before .before .args in
+    (omega (arith, pre .0 .0, length-take-le (a .end) (a .text .now) (pre .0 .1)), pre .1)
 
 shift-requires : tie.Need-shift-requires
-shift-requires c κs = (omega (arith, c .before .before .before .before .before .before .before .lines .ensures .0, length-take-le (c .before .before .before .before .before .before .before .before .before .before .before .before .before .before .before .before .args .end) (c .before .before .before .before .before .before .before .before .before .before .before .before .before .before .before .before .args .text .now) (c .before .before .before .before .before .before .before .before .before .before .before .before .before .before .before .before .pre .0 .1)), c .before .before .before .before .before .before .before .before .before .before .before .before .before .before .before .before .pre .0 .1)
+shift-requires c κs =
+    let a = c .before .before .before .before .before .before .before .before .before .before .before .before .before .before .before .before .args in
+    let pre = c .before .before .before .before .before .before .before .before .before .before .before .before .before .before .before .before .pre in
+    (omega (arith, c .before .before .before .before .before .before .before .lines .ensures .0, length-take-le (a .end) (a .text .now) (pre .0 .1)), pre .0 .1)
 
 sub-if1 : tie.Need-sub-if1
-sub-if1 c = omega (arith, c .before .before .before .before .before .before .before .before .before .before .lines .ensures .0, length-take-le (c .before .before .before .before .before .before .before .before .before .before .before .before .before .before .before .before .before .before .before .args .end) (c .before .before .before .before .before .before .before .before .before .before .before .before .before .before .before .before .before .before .before .args .text .now) (c .before .before .before .before .before .before .before .before .before .before .before .before .before .before .before .before .before .before .before .pre .0 .1))
+sub-if1 c =
+    let lines = c .before .before .before .before .before .before .before .before .before .before .lines in
+    let a = c .before .before .before .before .before .before .before .before .before .before .before .before .before .before .before .before .before .before .before .args in
+    let pre = c .before .before .before .before .before .before .before .before .before .before .before .before .before .before .before .before .before .before .before .pre in
+    omega (arith, lines .ensures .0, length-take-le (a .end) (a .text .now) (pre .0 .1))
 
 same-length : tie.Need-same-length
 same-length c = search needs
@@ -37,7 +47,11 @@ returns : tie.Need-returns
 returns c = search needs
 
 sub-t21 : tie.Need-sub-t21
-sub-t21 c = omega (arith, c .before .before .before .before .before .before .before .before .before .before .before .lines .ensures .0, length-take-le (c .before .before .before .before .before .before .before .before .before .before .before .before .before .before .before .before .before .before .before .before .args .end) (c .before .before .before .before .before .before .before .before .before .before .before .before .before .before .before .before .before .before .before .before .args .text .now) (c .before .before .before .before .before .before .before .before .before .before .before .before .before .before .before .before .before .before .before .before .pre .0 .1))
+sub-t21 c =
+    let lines = c .before .before .before .before .before .before .before .before .before .before .before .lines in
+    let a = c .before .before .before .before .before .before .before .before .before .before .before .before .before .before .before .before .before .before .before .before .args in
+    let pre = c .before .before .before .before .before .before .before .before .before .before .before .before .before .before .before .before .before .before .before .before .pre in
+    omega (arith, lines .ensures .0, length-take-le (a .end) (a .text .now) (pre .0 .1))
 
 same-length-5 : tie.Need-same-length-5
 same-length-5 c = search needs

@@ -41,7 +41,11 @@ loop-less : tie.Need-loop-less Inv-loop μ-loop
 loop-less c = omega (arith, c .line-end2 .ensures .0, c .line-end2 .ensures .1)
 
 loop-again : tie.Need-loop-again Inv-loop μ-loop
-loop-again c = (c .before .before .before .before .before .before .before .step .kept .1 .0 ∙ c .before .before .before .before .before .before .before .before .before .before .before .before .before .loop .inv .0, c .before .before .before .before .before .before .before .step .kept .1 .1 .0 ∙ c .before .before .before .before .before .before .before .before .before .before .before .before .before .loop .inv .1, c .before .before .before .before .before .before .before .step .kept .1 .1 .1 .0 ∙ c .before .before .before .before .before .before .before .before .before .before .before .before .before .loop .inv .2, c .line-end2 .ensures .0, c .line-end2 .ensures .1, omega (arith, c .before .before .before .before .before .before .before .step .ensures))
+loop-again c =
+    let step = c .before .before .before .before .before .before .before .step in
+    let l = c .before .before .before .before .before .before .before .before .before .before .before .before .before .loop in
+    let line-end2 = c .line-end2 in
+    (step .kept .1 .0 ∙ l .inv .0, step .kept .1 .1 .0 ∙ l .inv .1, step .kept .1 .1 .1 .0 ∙ l .inv .2, line-end2 .ensures .0, line-end2 .ensures .1, omega (arith, step .ensures))
 
 same-length : tie.Need-same-length Inv-loop μ-loop
 same-length c = omega arith

@@ -29,7 +29,12 @@ same-length c = search needs
 
 returns : tie.Need-returns
 unfolding imageText
-returns c = (wrote _ _ (c .before .before .before .before .before .before .before .before .before .before .before .before .before .before .before .before .args .out .now) (c .before .before .before .before .before .before .before .put-field2 .last .0) (c .before .before .put-field3 .last .0) (c .before .before .before .before .before .before .before .before .before .before .before .before .before .before .before .before .args .at) (c .before .before .before .before .before .before .before .put-field2 .result) (c .before .before .put-field3 .result) (wrote _ _ (c .before .before .before .before .before .before .before .before .before .before .before .before .before .before .before .before .args .out .now) (c .before .before .before .before .before .before .before .before .before .before .before .before .put-field .last .0) (c .before .before .before .before .before .before .before .put-field2 .last .0) (c .before .before .before .before .before .before .before .before .before .before .before .before .before .before .before .before .args .at) (c .before .before .before .before .before .before .before .before .before .before .before .before .put-field .result) (c .before .before .before .before .before .before .before .put-field2 .result) (c .before .before .before .before .before .before .before .before .before .before .before .before .put-field .ensures .0) (c .before .before .before .before .before .before .before .put-field2 .ensures .0)) (c .before .before .put-field3 .ensures .0), omega (arith, c .before .before .before .before .before .before .before .before .before .before .before .before .put-field .ensures .1, c .before .before .before .before .before .before .before .put-field2 .ensures .1, c .before .before .put-field3 .ensures .1))
+returns c =
+    let a = c .before .before .before .before .before .before .before .before .before .before .before .before .before .before .before .before .args in
+    let put-field2 = c .before .before .before .before .before .before .before .put-field2 in
+    let put-field3 = c .before .before .put-field3 in
+    let put-field = c .before .before .before .before .before .before .before .before .before .before .before .before .put-field in
+    (wrote _ _ (a .out .now) (put-field2 .last .0) (put-field3 .last .0) (a .at) (put-field2 .result) (put-field3 .result) (wrote _ _ (a .out .now) (put-field .last .0) (put-field2 .last .0) (a .at) (put-field .result) (put-field2 .result) (put-field .ensures .0) (put-field2 .ensures .0)) (put-field3 .ensures .0), omega (arith, put-field .ensures .1, put-field2 .ensures .1, put-field3 .ensures .1))
 
 pub put-image-spec : {M : Type 1} → statement M
 put-image-spec =

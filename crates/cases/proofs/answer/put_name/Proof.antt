@@ -82,56 +82,72 @@ same-length c = search needs
 
 returns : tie.Need-returns
 unfolding nameText
-returns c = (rw (c .before .before .before .before .before .enum-told .given .1) (c .before .before .put-text .ensures), omega (arith, c .before .before .put-text .ensures .to))
+returns c =
+    let put-text = c .before .before .put-text in
+    (rw (c .before .before .before .before .before .enum-told .given .1) (put-text .ensures), omega (arith, put-text .ensures .to))
 
 same-length-2 : tie.Need-same-length-2
 same-length-2 c = search needs
 
 returns-2 : tie.Need-returns-2
 unfolding nameText
-returns-2 c = (rw (c .before .before .before .before .before .enum-told2 .given .1) (c .before .before .put-text2 .ensures), omega (arith, c .before .before .put-text2 .ensures .to))
+returns-2 c =
+    let put-text2 = c .before .before .put-text2 in
+    (rw (c .before .before .before .before .before .enum-told2 .given .1) (put-text2 .ensures), omega (arith, put-text2 .ensures .to))
 
 same-length-3 : tie.Need-same-length-3
 same-length-3 c = search needs
 
 returns-3 : tie.Need-returns-3
 unfolding nameText
-returns-3 c = (rw (c .before .before .before .before .before .enum-told3 .given .1) (c .before .before .put-text3 .ensures), omega (arith, c .before .before .put-text3 .ensures .to))
+returns-3 c =
+    let put-text3 = c .before .before .put-text3 in
+    (rw (c .before .before .before .before .before .enum-told3 .given .1) (put-text3 .ensures), omega (arith, put-text3 .ensures .to))
 
 same-length-4 : tie.Need-same-length-4
 same-length-4 c = search needs
 
 returns-4 : tie.Need-returns-4
 unfolding nameText
-returns-4 c = (rw (c .before .before .before .before .before .enum-told4 .given .1) (c .before .before .put-text4 .ensures), omega (arith, c .before .before .put-text4 .ensures .to))
+returns-4 c =
+    let put-text4 = c .before .before .put-text4 in
+    (rw (c .before .before .before .before .before .enum-told4 .given .1) (put-text4 .ensures), omega (arith, put-text4 .ensures .to))
 
 same-length-5 : tie.Need-same-length-5
 same-length-5 c = search needs
 
 returns-5 : tie.Need-returns-5
 unfolding nameText
-returns-5 c = (rw (c .before .before .before .before .before .enum-told5 .given .1) (c .before .before .put-text5 .ensures), omega (arith, c .before .before .put-text5 .ensures .to))
+returns-5 c =
+    let put-text5 = c .before .before .put-text5 in
+    (rw (c .before .before .before .before .before .enum-told5 .given .1) (put-text5 .ensures), omega (arith, put-text5 .ensures .to))
 
 same-length-6 : tie.Need-same-length-6
 same-length-6 c = search needs
 
 returns-6 : tie.Need-returns-6
 unfolding nameText
-returns-6 c = (rw (c .before .before .before .before .before .enum-told6 .given .1) (c .before .before .put-text6 .ensures), omega (arith, c .before .before .put-text6 .ensures .to))
+returns-6 c =
+    let put-text6 = c .before .before .put-text6 in
+    (rw (c .before .before .before .before .before .enum-told6 .given .1) (put-text6 .ensures), omega (arith, put-text6 .ensures .to))
 
 same-length-7 : tie.Need-same-length-7
 same-length-7 c = search needs
 
 returns-7 : tie.Need-returns-7
 unfolding nameText
-returns-7 c = (rw (c .before .before .before .before .before .enum-told7 .given .1) (c .before .before .put-text7 .ensures), omega (arith, c .before .before .put-text7 .ensures .to))
+returns-7 c =
+    let put-text7 = c .before .before .put-text7 in
+    (rw (c .before .before .before .before .before .enum-told7 .given .1) (put-text7 .ensures), omega (arith, put-text7 .ensures .to))
 
 same-length-8 : tie.Need-same-length-8
 same-length-8 c = search needs
 
 returns-8 : tie.Need-returns-8
 unfolding nameText
-returns-8 c = (rw (c .before .before .before .before .before .enum-told8 .given .1) (c .before .before .put-text8 .ensures), omega (arith, c .before .before .put-text8 .ensures .to))
+returns-8 c =
+    let put-text8 = c .before .before .put-text8 in
+    (rw (c .before .before .before .before .before .enum-told8 .given .1) (put-text8 .ensures), omega (arith, put-text8 .ensures .to))
 
 pub put-name-spec : {M : Type 1} → statement M
 put-name-spec =

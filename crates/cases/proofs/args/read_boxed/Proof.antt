@@ -14,7 +14,12 @@ read-paint-requires : tie.Need-read-paint-requires
 read-paint-requires c κs = search needs
 
 returns : tie.Need-returns
-returns c = boxed-is (c .before .before .before .before .before .before .before .args .line .now) (c .before .before .before .before .before .before .before .args .at) (c .before .before .before .before .before .read-point .result) (c .before .before .before .before .read-extent .result) (c .before .before .before .read-paint .result) (c .before .before .before .before .before .read-point .ensures) (c .before .before .before .before .read-extent .ensures) (c .before .before .before .read-paint .ensures)
+returns c =
+    let a = c .before .before .before .before .before .before .before .args in
+    let read-point = c .before .before .before .before .before .read-point in
+    let read-extent = c .before .before .before .before .read-extent in
+    let read-paint = c .before .before .before .read-paint in
+    boxed-is (a .line .now) (a .at) (read-point .result) (read-extent .result) (read-paint .result) (read-point .ensures) (read-extent .ensures) (read-paint .ensures)
 
 pub read-boxed-spec : {M : Type 1} → statement M
 read-boxed-spec =

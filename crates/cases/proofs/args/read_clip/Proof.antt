@@ -15,7 +15,12 @@ read-extent-requires : tie.Need-read-extent-requires
 read-extent-requires c κs = search needs
 
 returns : tie.Need-returns
-returns c = signs (λ (x y : ℤ). got (record { x = x; y = y; width = c .before .before .before .read-extent .result .extent .w; height = c .before .before .before .read-extent .result .extent .h }) (leftAt (c .before .before .before .before .before .before .args .line .now) (c .before .before .before .read-extent .result .next))) (c .before .before .before .before .read-point .result .point .x) (c .before .before .before .before .read-point .result .point .y) (record { sfits = c .struct-told .given .0 .1 }) (record { sfits = c .struct-told .given .1 .0 .1 }) ∙ clip-is (c .before .before .before .before .before .before .args .line .now) (c .before .before .before .before .before .before .args .at) (c .before .before .before .before .read-point .result) (c .before .before .before .read-extent .result) (c .before .before .before .before .read-point .ensures) (c .before .before .before .read-extent .ensures)
+returns c =
+    let read-extent = c .before .before .before .read-extent in
+    let a = c .before .before .before .before .before .before .args in
+    let read-point = c .before .before .before .before .read-point in
+    let struct-told = c .struct-told in
+    signs (λ (x y : ℤ). got (record { x = x; y = y; width = read-extent .result .extent .w; height = read-extent .result .extent .h }) (leftAt (a .line .now) (read-extent .result .next))) (read-point .result .point .x) (read-point .result .point .y) (record { sfits = struct-told .given .0 .1 }) (record { sfits = struct-told .given .1 .0 .1 }) ∙ clip-is (a .line .now) (a .at) (read-point .result) (read-extent .result) (read-point .ensures) (read-extent .ensures)
 
 pub read-clip-spec : {M : Type 1} → statement M
 read-clip-spec = tie.close (tie.spec read-point-requires read-extent-requires returns)

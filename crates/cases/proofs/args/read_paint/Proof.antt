@@ -11,7 +11,11 @@ read-clip-requires : tie.Need-read-clip-requires
 read-clip-requires c κs = search needs
 
 returns : tie.Need-returns
-returns c = paint-is (c .before .before .before .before .before .args .line .now) (c .before .before .before .before .before .args .at) (c .before .before .before .read-color .result) (c .before .before .read-clip .result) (c .before .before .before .read-color .ensures) (c .before .before .read-clip .ensures)
+returns c =
+    let a = c .before .before .before .before .before .args in
+    let read-color = c .before .before .before .read-color in
+    let read-clip = c .before .before .read-clip in
+    paint-is (a .line .now) (a .at) (read-color .result) (read-clip .result) (read-color .ensures) (read-clip .ensures)
 
 pub read-paint-spec : {M : Type 1} → statement M
 read-paint-spec = tie.close (tie.spec read-color-requires read-clip-requires returns)

@@ -14,7 +14,12 @@ read-number-requires-3 : tie.Need-read-number-requires-3
 read-number-requires-3 c κs = search needs
 
 returns : tie.Need-returns
-returns c = screen-is (c .before .before .before .before .args .line .now) (c .before .before .before .before .args .at) (c .before .before .read-number .result) (c .before .read-number2 .result) (c .read-number3 .result) (c .before .before .read-number .ensures .0) (c .before .read-number2 .ensures .0) (c .read-number3 .ensures .0)
+returns c =
+    let a = c .before .before .before .before .args in
+    let read-number = c .before .before .read-number in
+    let read-number2 = c .before .read-number2 in
+    let read-number3 = c .read-number3 in
+    screen-is (a .line .now) (a .at) (read-number .result) (read-number2 .result) (read-number3 .result) (read-number .ensures .0) (read-number2 .ensures .0) (read-number3 .ensures .0)
 
 pub read-screen-spec : {M : Type 1} → statement M
 read-screen-spec =

@@ -20,7 +20,11 @@ read-rect-requires c κs = search needs
 
 returns : tie.Need-returns
 unfolding boxRowOf
-returns c = (c .read-rect .ensures .0 ∙ tried rectOf _ (c .before .before .before .before .before .args .line .now) (c .before .before .named .result) (c .before .before .named .ensures) (c .before .if1 .taken), c .read-rect .ensures .1)
+returns c =
+    let read-rect = c .read-rect in
+    let a = c .before .before .before .before .before .args in
+    let named = c .before .before .named in
+    (read-rect .ensures .0 ∙ tried rectOf _ (a .line .now) (named .result) (named .ensures) (c .before .if1 .taken), read-rect .ensures .1)
 
 slice-aggregate-named-2 : tie.Need-slice-aggregate-named-2
 slice-aggregate-named-2 c = search needs
@@ -36,7 +40,12 @@ read-fill-requires c κs = search needs
 
 returns-2 : tie.Need-returns-2
 unfolding boxRowOf
-returns-2 c = (c .read-fill .ensures .0 ∙ tried fillOf _ (c .before .before .before .before .before .before .before .before .args .line .now) (c .before .before .named2 .result) (c .before .before .named2 .ensures) (c .before .if2 .taken) ∙ passed rectOf _ (c .before .before .before .before .before .before .before .before .args .line .now) (c .before .before .before .before .before .named .result) (c .before .before .before .before .before .named .ensures) (c .before .before .before .before .if1 .left), c .read-fill .ensures .1)
+returns-2 c =
+    let read-fill = c .read-fill in
+    let a = c .before .before .before .before .before .before .before .before .args in
+    let named2 = c .before .before .named2 in
+    let named = c .before .before .before .before .before .named in
+    (read-fill .ensures .0 ∙ tried fillOf _ (a .line .now) (named2 .result) (named2 .ensures) (c .before .if2 .taken) ∙ passed rectOf _ (a .line .now) (named .result) (named .ensures) (c .before .before .before .before .if1 .left), read-fill .ensures .1)
 
 slice-aggregate-named-3 : tie.Need-slice-aggregate-named-3
 slice-aggregate-named-3 c = search needs
@@ -52,14 +61,26 @@ read-invert-requires c κs = search needs
 
 returns-3 : tie.Need-returns-3
 unfolding boxRowOf
-returns-3 c = (c .read-invert .ensures .0 ∙ tried invertOf _ (c .before .before .before .before .before .before .before .before .before .before .before .args .line .now) (c .before .before .named3 .result) (c .before .before .named3 .ensures) (c .before .if3 .taken) ∙ passed fillOf _ (c .before .before .before .before .before .before .before .before .before .before .before .args .line .now) (c .before .before .before .before .before .named2 .result) (c .before .before .before .before .before .named2 .ensures) (c .before .before .before .before .if2 .left) ∙ passed rectOf _ (c .before .before .before .before .before .before .before .before .before .before .before .args .line .now) (c .before .before .before .before .before .before .before .before .named .result) (c .before .before .before .before .before .before .before .before .named .ensures) (c .before .before .before .before .before .before .before .if1 .left), c .read-invert .ensures .1)
+returns-3 c =
+    let read-invert = c .read-invert in
+    let a = c .before .before .before .before .before .before .before .before .before .before .before .args in
+    let named3 = c .before .before .named3 in
+    let named2 = c .before .before .before .before .before .named2 in
+    let named = c .before .before .before .before .before .before .before .before .named in
+    (read-invert .ensures .0 ∙ tried invertOf _ (a .line .now) (named3 .result) (named3 .ensures) (c .before .if3 .taken) ∙ passed fillOf _ (a .line .now) (named2 .result) (named2 .ensures) (c .before .before .before .before .if2 .left) ∙ passed rectOf _ (a .line .now) (named .result) (named .ensures) (c .before .before .before .before .before .before .before .if1 .left), read-invert .ensures .1)
 
 read-image-row-requires : tie.Need-read-image-row-requires
 read-image-row-requires c κs = search needs
 
 returns-4 : tie.Need-returns-4
 unfolding boxRowOf
-returns-4 c = (c .read-image-row .ensures .0 ∙ passed invertOf _ (c .before .before .before .before .before .before .before .before .before .before .before .args .line .now) (c .before .before .named3 .result) (c .before .before .named3 .ensures) (c .before .if3 .left) ∙ passed fillOf _ (c .before .before .before .before .before .before .before .before .before .before .before .args .line .now) (c .before .before .before .before .before .named2 .result) (c .before .before .before .before .before .named2 .ensures) (c .before .before .before .before .if2 .left) ∙ passed rectOf _ (c .before .before .before .before .before .before .before .before .before .before .before .args .line .now) (c .before .before .before .before .before .before .before .before .named .result) (c .before .before .before .before .before .before .before .before .named .ensures) (c .before .before .before .before .before .before .before .if1 .left), c .read-image-row .ensures .1)
+returns-4 c =
+    let read-image-row = c .read-image-row in
+    let a = c .before .before .before .before .before .before .before .before .before .before .before .args in
+    let named3 = c .before .before .named3 in
+    let named2 = c .before .before .before .before .before .named2 in
+    let named = c .before .before .before .before .before .before .before .before .named in
+    (read-image-row .ensures .0 ∙ passed invertOf _ (a .line .now) (named3 .result) (named3 .ensures) (c .before .if3 .left) ∙ passed fillOf _ (a .line .now) (named2 .result) (named2 .ensures) (c .before .before .before .before .if2 .left) ∙ passed rectOf _ (a .line .now) (named .result) (named .ensures) (c .before .before .before .before .before .before .before .if1 .left), read-image-row .ensures .1)
 
 pub read-box-row-spec : {M : Type 1} → statement M
 read-box-row-spec =

@@ -23,7 +23,15 @@ read-clip-requires : tie.Need-read-clip-requires
 read-clip-requires c κs = search needs
 
 returns : tie.Need-returns
-returns c = (draw-is (c .before .before .before .before .before .before .before .before .before .before .before .before .args .line .now) (c .before .before .before .before .before .before .before .before .before .before .before .before .args .at) (c .before .before .before .before .before .before .before .before .before .before .read-point .result) (c .before .before .before .before .before .before .before .before .before .read-extent .result) (c .before .before .before .before .before .before .before .before .read-screen .result) (c .before .before .before .before .before .before .before .read-seed .result) (c .before .before .before .before .before .before .read-point2 .result) (c .before .before .before .before .before .read-clip .result) (c .before .before .before .before .before .before .before .before .before .before .read-point .ensures) (c .before .before .before .before .before .before .before .before .before .read-extent .ensures) (c .before .before .before .before .before .before .before .before .read-screen .ensures) (c .before .before .before .before .before .before .before .read-seed .ensures .0) (c .before .before .before .before .before .before .read-point2 .ensures) (c .before .before .before .before .before .read-clip .ensures), c .before .before .before .before .before .before .before .read-seed .ensures .1)
+returns c =
+    let a = c .before .before .before .before .before .before .before .before .before .before .before .before .args in
+    let read-point = c .before .before .before .before .before .before .before .before .before .before .read-point in
+    let read-extent = c .before .before .before .before .before .before .before .before .before .read-extent in
+    let read-screen = c .before .before .before .before .before .before .before .before .read-screen in
+    let read-seed = c .before .before .before .before .before .before .before .read-seed in
+    let read-point2 = c .before .before .before .before .before .before .read-point2 in
+    let read-clip = c .before .before .before .before .before .read-clip in
+    (draw-is (a .line .now) (a .at) (read-point .result) (read-extent .result) (read-screen .result) (read-seed .result) (read-point2 .result) (read-clip .result) (read-point .ensures) (read-extent .ensures) (read-screen .ensures) (read-seed .ensures .0) (read-point2 .ensures) (read-clip .ensures), read-seed .ensures .1)
 
 pub read-draw-spec : {M : Type 1} → statement M
 read-draw-spec =

@@ -11,7 +11,11 @@ plain-requires : tie.Need-plain-requires
 plain-requires c κs = search needs
 
 returns : tie.Need-returns
-returns c = plain-is (c .before .before .before .before .args .line .now) (c .plain .result) _ (c .before .before .read-boxed .result .next) (c .plain .ensures) (fill-is (c .before .before .before .before .args .line .now) (c .before .before .before .before .args .at) (c .before .before .read-boxed .result) (c .before .before .read-boxed .ensures))
+returns c =
+    let a = c .before .before .before .before .args in
+    let plain = c .plain in
+    let read-boxed = c .before .before .read-boxed in
+    plain-is (a .line .now) (plain .result) _ (read-boxed .result .next) (plain .ensures) (fill-is (a .line .now) (a .at) (read-boxed .result) (read-boxed .ensures))
 
 pub read-fill-spec : {M : Type 1} → statement M
 read-fill-spec = tie.close (tie.spec read-boxed-requires plain-requires returns)

@@ -11,7 +11,11 @@ plain-requires : tie.Need-plain-requires
 plain-requires c κs = search needs
 
 returns : tie.Need-returns
-returns c = plain-is (c .before .before .before .before .args .line .now) (c .plain .result) _ (c .before .before .read-point .result .next) (c .plain .ensures) (get-is (c .before .before .before .before .args .line .now) (c .before .before .before .before .args .at) (c .before .before .read-point .result) (c .before .before .read-point .ensures))
+returns c =
+    let a = c .before .before .before .before .args in
+    let plain = c .plain in
+    let read-point = c .before .before .read-point in
+    plain-is (a .line .now) (plain .result) _ (read-point .result .next) (plain .ensures) (get-is (a .line .now) (a .at) (read-point .result) (read-point .ensures))
 
 pub read-get-spec : {M : Type 1} → statement M
 read-get-spec = tie.close (tie.spec read-point-requires plain-requires returns)

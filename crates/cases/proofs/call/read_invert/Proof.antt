@@ -17,7 +17,13 @@ plain-requires : tie.Need-plain-requires
 plain-requires c κs = search needs
 
 returns : tie.Need-returns
-returns c = plain-is (c .before .before .before .before .before .before .before .before .args .line .now) (c .plain .result) _ (c .before .before .before .before .read-clip .result .next) (c .plain .ensures) (invert-is (c .before .before .before .before .before .before .before .before .args .line .now) (c .before .before .before .before .before .before .before .before .args .at) (c .before .before .before .before .before .before .read-point .result) (c .before .before .before .before .before .read-extent .result) (c .before .before .before .before .read-clip .result) (c .before .before .before .before .before .before .read-point .ensures) (c .before .before .before .before .before .read-extent .ensures) (c .before .before .before .before .read-clip .ensures))
+returns c =
+    let a = c .before .before .before .before .before .before .before .before .args in
+    let plain = c .plain in
+    let read-clip = c .before .before .before .before .read-clip in
+    let read-point = c .before .before .before .before .before .before .read-point in
+    let read-extent = c .before .before .before .before .before .read-extent in
+    plain-is (a .line .now) (plain .result) _ (read-clip .result .next) (plain .ensures) (invert-is (a .line .now) (a .at) (read-point .result) (read-extent .result) (read-clip .result) (read-point .ensures) (read-extent .ensures) (read-clip .ensures))
 
 pub read-invert-spec : {M : Type 1} → statement M
 read-invert-spec =

@@ -14,7 +14,12 @@ plain-requires : tie.Need-plain-requires
 plain-requires c κs = search needs
 
 returns : tie.Need-returns
-returns c = plain-is (c .before .before .before .before .before .before .args .line .now) (c .plain .result) _ (c .before .before .before .read-paint .result .next) (c .plain .ensures) (put-is (c .before .before .before .before .before .before .args .line .now) (c .before .before .before .before .before .before .args .at) (c .before .before .before .before .read-point .result) (c .before .before .before .read-paint .result) (c .before .before .before .before .read-point .ensures) (c .before .before .before .read-paint .ensures))
+returns c =
+    let a = c .before .before .before .before .before .before .args in
+    let plain = c .plain in
+    let read-paint = c .before .before .before .read-paint in
+    let read-point = c .before .before .before .before .read-point in
+    plain-is (a .line .now) (plain .result) _ (read-paint .result .next) (plain .ensures) (put-is (a .line .now) (a .at) (read-point .result) (read-paint .result) (read-point .ensures) (read-paint .ensures))
 
 pub read-put-spec : {M : Type 1} → statement M
 read-put-spec = tie.close (tie.spec read-point-requires read-paint-requires plain-requires returns)

@@ -20,7 +20,11 @@ read-put-requires c κs = search needs
 
 returns : tie.Need-returns
 unfolding rowOf
-returns c = (c .read-put .ensures .0 ∙ tried putOf _ (c .before .before .before .before .before .args .line .now) (c .before .before .named .result) (c .before .before .named .ensures) (c .before .if1 .taken), c .read-put .ensures .1)
+returns c =
+    let read-put = c .read-put in
+    let a = c .before .before .before .before .before .args in
+    let named = c .before .before .named in
+    (read-put .ensures .0 ∙ tried putOf _ (a .line .now) (named .result) (named .ensures) (c .before .if1 .taken), read-put .ensures .1)
 
 slice-aggregate-named-2 : tie.Need-slice-aggregate-named-2
 slice-aggregate-named-2 c = search needs
@@ -36,14 +40,24 @@ read-get-requires c κs = search needs
 
 returns-2 : tie.Need-returns-2
 unfolding rowOf
-returns-2 c = (c .read-get .ensures .0 ∙ tried getOf _ (c .before .before .before .before .before .before .before .before .args .line .now) (c .before .before .named2 .result) (c .before .before .named2 .ensures) (c .before .if2 .taken) ∙ passed putOf _ (c .before .before .before .before .before .before .before .before .args .line .now) (c .before .before .before .before .before .named .result) (c .before .before .before .before .before .named .ensures) (c .before .before .before .before .if1 .left), c .read-get .ensures .1)
+returns-2 c =
+    let read-get = c .read-get in
+    let a = c .before .before .before .before .before .before .before .before .args in
+    let named2 = c .before .before .named2 in
+    let named = c .before .before .before .before .before .named in
+    (read-get .ensures .0 ∙ tried getOf _ (a .line .now) (named2 .result) (named2 .ensures) (c .before .if2 .taken) ∙ passed putOf _ (a .line .now) (named .result) (named .ensures) (c .before .before .before .before .if1 .left), read-get .ensures .1)
 
 read-box-row-requires : tie.Need-read-box-row-requires
 read-box-row-requires c κs = search needs
 
 returns-3 : tie.Need-returns-3
 unfolding rowOf
-returns-3 c = (c .read-box-row .ensures .0 ∙ passed getOf _ (c .before .before .before .before .before .before .before .before .args .line .now) (c .before .before .named2 .result) (c .before .before .named2 .ensures) (c .before .if2 .left) ∙ passed putOf _ (c .before .before .before .before .before .before .before .before .args .line .now) (c .before .before .before .before .before .named .result) (c .before .before .before .before .before .named .ensures) (c .before .before .before .before .if1 .left), c .read-box-row .ensures .1)
+returns-3 c =
+    let read-box-row = c .read-box-row in
+    let a = c .before .before .before .before .before .before .before .before .args in
+    let named2 = c .before .before .named2 in
+    let named = c .before .before .before .before .before .named in
+    (read-box-row .ensures .0 ∙ passed getOf _ (a .line .now) (named2 .result) (named2 .ensures) (c .before .if2 .left) ∙ passed putOf _ (a .line .now) (named .result) (named .ensures) (c .before .before .before .before .if1 .left), read-box-row .ensures .1)
 
 pub read-row-spec : {M : Type 1} → statement M
 read-row-spec =

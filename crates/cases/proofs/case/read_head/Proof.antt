@@ -11,7 +11,11 @@ read-number-requires : tie.Need-read-number-requires
 read-number-requires c κs = search needs
 
 returns : tie.Need-returns
-returns c = head-is (c .before .before .before .before .before .args .line .now) (c .before .before .before .read-screen .result) (c .before .before .read-number .result) (c .before .before .before .read-screen .ensures) (c .before .before .read-number .ensures .0)
+returns c =
+    let a = c .before .before .before .before .before .args in
+    let read-screen = c .before .before .before .read-screen in
+    let read-number = c .before .before .read-number in
+    head-is (a .line .now) (read-screen .result) (read-number .result) (read-screen .ensures) (read-number .ensures .0)
 
 pub read-head-spec : {M : Type 1} → statement M
 read-head-spec = tie.close (tie.spec read-screen-requires read-number-requires returns)

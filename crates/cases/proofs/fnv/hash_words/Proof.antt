@@ -34,7 +34,10 @@ loop-less : tie.Need-loop-less Inv-loop μ-loop
 loop-less c = omega arith
 
 loop-again : tie.Need-loop-again Inv-loop μ-loop
-loop-again c = (omega arith, ap (λ (n : ℕ). hashFrom n (allBytes (drop (c .before .before .before .loop .i + 1) (c .before .before .before .before .before .args .words .now)))) (c .take-in .ensures) ∙ sym (word-in (c .before .before .before .loop .h) (c .before .before .before .before .before .args .words .now) (c .before .before .before .loop .i) (c .before .before .loop-test .taken)) ∙ c .before .before .before .loop .inv .1)
+loop-again c =
+    let l = c .before .before .before .loop in
+    let a = c .before .before .before .before .before .args in
+    (omega arith, ap (λ (n : ℕ). hashFrom n (allBytes (drop (l .i + 1) (a .words .now)))) (c .take-in .ensures) ∙ sym (word-in (l .h) (a .words .now) (l .i) (c .before .before .loop-test .taken)) ∙ l .inv .1)
 
 returns : tie.Need-returns Inv-loop μ-loop
 unfolding hashOf

@@ -17,7 +17,13 @@ times-requires-4 : tie.Need-times-requires-4
 times-requires-4 c κs = search needs
 
 returns : tie.Need-returns
-returns c = four-in (c .before .before .before .before .args .h) (c .before .before .before .before .args .word) (c .before .before .before .times .result) (c .before .before .times2 .result) (c .before .times3 .result) (c .times4 .result) (c .before .before .before .times .ensures) (c .before .before .times2 .ensures) (c .before .times3 .ensures) (c .times4 .ensures)
+returns c =
+    let a = c .before .before .before .before .args in
+    let times = c .before .before .before .times in
+    let times2 = c .before .before .times2 in
+    let times3 = c .before .times3 in
+    let times4 = c .times4 in
+    four-in (a .h) (a .word) (times .result) (times2 .result) (times3 .result) (times4 .result) (times .ensures) (times2 .ensures) (times3 .ensures) (times4 .ensures)
 
 pub take-in-spec : {M : Type 1} → statement M
 take-in-spec =
