@@ -16,15 +16,17 @@ use Rattle.cases.specs.Place.{
   readClip,
   readPaint,
   readBoxed,
+  read,
   readSeed,
   readRow,
   plainRow,
 }
 use Rattle.cases.specs.Args.{screenOf, pointOf, extentOf, clipOf, paintOf, boxedOf}
-use Rattle.cases.specs.Seed.{seedOf}
-use Rattle.cases.specs.Call.{Asked, plain, putOf, getOf, rectOf, fillOf, invertOf, copyOf, drawOf}
+use Rattle.cases.specs.Seed.{seedOf, fileOf}
+use Rattle.cases.specs.Number.{numberOf}
+use Rattle.cases.specs.Call.{Asked, plain, putOf, getOf, rectOf, fillOf, invertOf, copyOf, drawOf, lbmpOf, blank}
 use Rattle.cases.specs.declared.call.Call.{Call}
-use Rattle.cases.specs.declared.call.Call.the-variants.{Put, Get, Rect, Fill, Invert, Copy, Draw}
+use Rattle.cases.specs.declared.call.Call.the-variants.{Put, Get, Rect, Fill, Invert, Copy, Draw, Lbmp}
 use Rattle.cases.specs.declared.call.Row.{Row}
 use Rattle.cases.specs.declared.args.Screened.{Screened}
 use Rattle.cases.specs.declared.args.Pointed.{Pointed}
@@ -32,6 +34,7 @@ use Rattle.cases.specs.declared.args.Measured.{Measured}
 use Rattle.cases.specs.declared.args.Clipped.{Clipped}
 use Rattle.cases.specs.declared.args.Painted.{Painted}
 use Rattle.cases.specs.declared.args.Enclosed.{Enclosed}
+use Rattle.cases.specs.declared.number.Number.{Number}
 use Rattle.cases.specs.declared.seed.Seeded.{Seeded}
 use Rattle.cases.proofs.Reading.{found, missed, gone}
 
@@ -81,6 +84,11 @@ module _ (line : List ℕ) (at : ℕ) where
       ≡ drawOf (leftAt line at)
   unfolding drawOf
   draw-is d x v t s k e₁ e₂ e₃ e₄ e₅ e₆ = rw (← e₁, ← e₂, ← e₃, ← e₄, ← e₅, ← e₆)
+
+  pub lbmp-is : (n : Number) (f : Seeded) → read line n ≡ numberOf 4294967295 (leftAt line at) → readSeed line f ≡ fileOf (leftAt line (n .next))
+      → readRow line (record { call = Lbmp (n .value); source = blank; seed = f .seed; next = f .next }) ≡ lbmpOf (leftAt line at)
+  unfolding lbmpOf
+  lbmp-is n f e₁ e₂ = rw (← e₁, ← e₂)
 
 -- A row is read where its name was met, and passed over where it was not.
 pub tried : (f : Left → Got Asked) (c : Got Asked) (line : List ℕ) (i : ℕ) {l : Left} → leftAt line i ≡ l → i < length line + 2 → f (leftAt line i) ≡ orElse l (f l) c

@@ -5,13 +5,13 @@ use Prim.Native.Nat.{ℕ}
 use lib.IntN.{pos}
 use Rattle.canvas.specs.declared.Canvas.{Canvas}
 use Rattle.cases.specs.Line.{Left, lost, Got, got, orElse}
-use Rattle.cases.specs.Number.{named}
+use Rattle.cases.specs.Number.{numberOf, named}
 use Rattle.cases.specs.Args.{screenOf, pointOf, extentOf, clipOf, paintOf, boxedOf}
-use Rattle.cases.specs.Seed.{Sown, given, seedOf}
+use Rattle.cases.specs.Seed.{Sown, given, seedOf, fileOf}
 use Rattle.cases.specs.declared.call.Call.{Call}
-use Rattle.cases.specs.declared.call.Call.the-variants.{Put, Get, Rect, Fill, Invert, Copy, Draw}
+use Rattle.cases.specs.declared.call.Call.the-variants.{Put, Get, Rect, Fill, Invert, Copy, Draw, Lbmp}
 
--- What a row asks for: a call, and an image beside the canvas with what it holds first.
+-- What a row asks for: a call, and an image beside the canvas with what it holds first, or a file's bytes.
 pub record Asked : Type 0 where
   pub call : Call
   pub source : Canvas
@@ -65,6 +65,12 @@ drawOf l =
     let k = clipOf (s .left) in
     got (record { call = Draw (d .value) (e .value) (v .value) (s .value) (k .value); source = v .value; seed = t .value }) (k .left)
 
+-- "lbmp | ROOM HEX"
+unfoldable pub lbmpOf : Left → Got Asked
+lbmpOf l =
+    let n = numberOf 4294967295 l in
+    let f = fileOf (n .left) in got (record { call = Lbmp (n .value); source = blank; seed = f .value }) (f .left)
+
 abbrev pub put : List ℕ
 put = 112 ∷ 117 ∷ 116 ∷ []
 
@@ -99,7 +105,7 @@ noRow = got (plain (Get (record { x = pos 0; y = pos 0 }))) lost
 
 -- The row whose name is the first word, looked for in three parts of the table.
 unfoldable pub imageRowOf : Left → Got Asked
-imageRowOf l = row copy copyOf l (row draw drawOf l noRow)
+imageRowOf l = row copy copyOf l (row draw drawOf l (row lbmp lbmpOf l noRow))
 
 unfoldable pub boxRowOf : Left → Got Asked
 boxRowOf l = row rect rectOf l (row fill fillOf l (row invert invertOf l (imageRowOf l)))

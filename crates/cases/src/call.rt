@@ -1,7 +1,7 @@
 // The rows of the table of calls: a name and its arguments.
 ghost use mathlib.Core.Path.{_≡_};
 ghost use Rattle.cases.specs.Place.{leftAt, readRow, plainRow, Within};
-ghost use Rattle.cases.specs.Call.{putOf, getOf, rectOf, fillOf, invertOf, copyOf, drawOf};
+ghost use Rattle.cases.specs.Call.{putOf, getOf, rectOf, fillOf, invertOf, copyOf, drawOf, lbmpOf};
 ghost use Rattle.cases.specs.Call.{rowOf, boxRowOf, imageRowOf};
 use crate::args::Boxed;
 use crate::args::Extent;
@@ -14,7 +14,9 @@ use crate::args::read_paint;
 use crate::args::read_point;
 use crate::args::read_screen;
 use crate::number::named;
+use crate::number::read_number;
 use crate::seed::Seed;
+use crate::seed::read_file;
 use crate::seed::read_seed;
 use canvas::Canvas;
 use canvas::Clip;
@@ -45,9 +47,11 @@ pub enum Call {
         from: Point,
         clip: Clip,
     },
+    // A file that is read into so many words.
+    Lbmp(u32),
 }
 
-// A row that was read: the call, the image beside the canvas with its seed, and the place after the row.
+// A row that was read: the call, the image or the file beside the canvas with its seed, and the place after the row.
 pub(crate) struct Row {
     pub call: Call,
     pub source: Canvas,
@@ -176,6 +180,24 @@ fn read_draw(line: &[u8], at: usize) -> Row
     }
 }
 
+fn read_lbmp(line: &[u8], at: usize) -> Row
+    ensures { λ r. ⌜ readRow (now (line .entry)) r ≡ lbmpOf (leftAt (now (line .entry)) at) ⌝ }
+    ensures { λ r. ⌜ Within (now (line .entry)) (r .seed) ⌝ }
+{
+    let n = read_number(line, at, 4294967295);
+    let f = read_file(line, n.next);
+    let r = plain(Call::Lbmp(n.value), f.next);
+    let call = r.call;
+    let source = r.source;
+    let seed = f.seed;
+    Row {
+        call,
+        source,
+        seed,
+        next: f.next,
+    }
+}
+
 // The row at a place, by its name.
 pub(crate) fn read_row(line: &[u8], at: usize) -> Row
     ensures { λ r. ⌜ readRow (now (line .entry)) r ≡ rowOf (leftAt (now (line .entry)) at) ⌝ }
@@ -212,7 +234,7 @@ fn read_box_row(line: &[u8], at: usize) -> Row
     read_image_row(line, at)
 }
 
-// The row of an area copied or an image drawn; what has no row is lost.
+// The row of an area copied, an image drawn or a file read; what has no row is lost.
 fn read_image_row(line: &[u8], at: usize) -> Row
     ensures { λ r. ⌜ readRow (now (line .entry)) r ≡ imageRowOf (leftAt (now (line .entry)) at) ⌝ }
     ensures { λ r. ⌜ Within (now (line .entry)) (r .seed) ⌝ }
@@ -224,6 +246,10 @@ fn read_image_row(line: &[u8], at: usize) -> Row
     let d = named(line, at, b"draw");
     if d < line.len() + 2 {
         return read_draw(line, d);
+    }
+    let l = named(line, at, b"lbmp");
+    if l < line.len() + 2 {
+        return read_lbmp(line, l);
     }
     plain(Call::Get(Point { x: 0, y: 0 }), line.len() + 2)
 }

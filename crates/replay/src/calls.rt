@@ -176,5 +176,7 @@ pub(crate) fn run(v: Canvas, bytes: &mut [u8], c: Call, image: &[u8], out: &mut 
             from,
             clip,
         } => draw(v, bytes, corner, size, source, image, from, clip, out),
+        // Until the reader of such files is here.
+        Call::Lbmp(_) => bad(out),
     }
 }

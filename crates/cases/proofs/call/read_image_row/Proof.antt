@@ -1,6 +1,6 @@
 -- `read_image_row` tries the names that are left; what has none is lost.
 use mathlib.Core.Path.{_∙_}
-use Rattle.cases.specs.Call.{imageRowOf, copyOf, drawOf}
+use Rattle.cases.specs.Call.{imageRowOf, copyOf, drawOf, lbmpOf}
 use Rattle.cases.proofs.Calls.{tried, passed, plain-is, no-row}
 use borrow.Author.Needs.{needs}
 use Rattle.cases.proofs.call.read_image_row.Statement.{statement}
@@ -20,7 +20,11 @@ read-copy-requires c κs = search needs
 
 returns : tie.Need-returns
 unfolding imageRowOf
-returns c = (c .read-copy .ensures .0 ∙ tried copyOf _ (c .before .before .before .before .before .args .line .now) (c .before .before .named .result) (c .before .before .named .ensures) (c .before .if1 .taken), c .read-copy .ensures .1)
+returns c =
+    let read-copy = c .read-copy in
+    let a = c .before .before .before .before .before .args in
+    let named = c .before .before .named in
+    (read-copy .ensures .0 ∙ tried copyOf _ (a .line .now) (named .result) (named .ensures) (c .before .if1 .taken), read-copy .ensures .1)
 
 slice-aggregate-named-2 : tie.Need-slice-aggregate-named-2
 slice-aggregate-named-2 c = search needs
@@ -36,7 +40,34 @@ read-draw-requires c κs = search needs
 
 returns-2 : tie.Need-returns-2
 unfolding imageRowOf
-returns-2 c = (c .read-draw .ensures .0 ∙ tried drawOf _ (c .before .before .before .before .before .before .before .before .args .line .now) (c .before .before .named2 .result) (c .before .before .named2 .ensures) (c .before .if2 .taken) ∙ passed copyOf _ (c .before .before .before .before .before .before .before .before .args .line .now) (c .before .before .before .before .before .named .result) (c .before .before .before .before .before .named .ensures) (c .before .before .before .before .if1 .left), c .read-draw .ensures .1)
+returns-2 c =
+    let read-draw = c .read-draw in
+    let a = c .before .before .before .before .before .before .before .before .args in
+    let named2 = c .before .before .named2 in
+    let named = c .before .before .before .before .before .named in
+    (read-draw .ensures .0 ∙ tried drawOf _ (a .line .now) (named2 .result) (named2 .ensures) (c .before .if2 .taken) ∙ passed copyOf _ (a .line .now) (named .result) (named .ensures) (c .before .before .before .before .if1 .left), read-draw .ensures .1)
+
+slice-aggregate-named-3 : tie.Need-slice-aggregate-named-3
+slice-aggregate-named-3 c = search needs
+
+named-requires-3 : tie.Need-named-requires-3
+named-requires-3 c κs = search needs
+
+add-if3 : tie.Need-add-if3
+add-if3 c = search needs
+
+read-lbmp-requires : tie.Need-read-lbmp-requires
+read-lbmp-requires c κs = search needs
+
+returns-3 : tie.Need-returns-3
+unfolding imageRowOf
+returns-3 c =
+    let read-lbmp = c .read-lbmp in
+    let a = c .before .before .before .before .before .before .before .before .before .before .before .args in
+    let named3 = c .before .before .named3 in
+    let named2 = c .before .before .before .before .before .named2 in
+    let named = c .before .before .before .before .before .before .before .before .named in
+    (read-lbmp .ensures .0 ∙ tried lbmpOf _ (a .line .now) (named3 .result) (named3 .ensures) (c .before .if3 .taken) ∙ passed drawOf _ (a .line .now) (named2 .result) (named2 .ensures) (c .before .before .before .before .if2 .left) ∙ passed copyOf _ (a .line .now) (named .result) (named .ensures) (c .before .before .before .before .before .before .before .if1 .left), read-lbmp .ensures .1)
 
 add-plain : tie.Need-add-plain
 add-plain c = search needs
@@ -44,9 +75,15 @@ add-plain c = search needs
 plain-requires : tie.Need-plain-requires
 plain-requires c κs = search needs
 
-returns-3 : tie.Need-returns-3
+returns-4 : tie.Need-returns-4
 unfolding imageRowOf
-returns-3 c = plain-is (c .before .before .before .before .before .before .before .before .args .line .now) (c .plain .result) _ _ (c .plain .ensures) (no-row _ (c .before .before .before .before .before .before .before .before .args .line .now) ∙ passed drawOf _ (c .before .before .before .before .before .before .before .before .args .line .now) (c .before .before .named2 .result) (c .before .before .named2 .ensures) (c .before .if2 .left) ∙ passed copyOf _ (c .before .before .before .before .before .before .before .before .args .line .now) (c .before .before .before .before .before .named .result) (c .before .before .before .before .before .named .ensures) (c .before .before .before .before .if1 .left))
+returns-4 c =
+    let a = c .before .before .before .before .before .before .before .before .before .before .before .args in
+    let plain = c .plain in
+    let named3 = c .before .before .named3 in
+    let named2 = c .before .before .before .before .before .named2 in
+    let named = c .before .before .before .before .before .before .before .before .named in
+    plain-is (a .line .now) (plain .result) _ _ (plain .ensures) (no-row _ (a .line .now) ∙ passed lbmpOf _ (a .line .now) (named3 .result) (named3 .ensures) (c .before .if3 .left) ∙ passed drawOf _ (a .line .now) (named2 .result) (named2 .ensures) (c .before .before .before .before .if2 .left) ∙ passed copyOf _ (a .line .now) (named .result) (named .ensures) (c .before .before .before .before .before .before .before .if1 .left))
 
 pub read-image-row-spec : {M : Type 1} → statement M
 read-image-row-spec =
@@ -62,6 +99,11 @@ read-image-row-spec =
     add-if2
     read-draw-requires
     returns-2
+    slice-aggregate-named-3
+    named-requires-3
+    add-if3
+    read-lbmp-requires
+    returns-3
     add-plain
     plain-requires
-    returns-3)
+    returns-4)
