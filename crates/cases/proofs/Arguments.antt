@@ -21,9 +21,12 @@ use Rattle.cases.specs.Place.{
   readClip,
   readPaint,
   readBoxed,
+  readTurn,
+  readCurve,
+  readRounded,
 }
 use Rattle.cases.specs.Number.{numberOf, signedOf}
-use Rattle.cases.specs.Args.{screenOf, pointOf, extentOf, colorOf, clipOf, paintOf, boxedOf}
+use Rattle.cases.specs.Args.{screenOf, pointOf, extentOf, colorOf, clipOf, paintOf, boxedOf, turnOf, curveOf, roundedOf}
 use Rattle.cases.specs.Case.{headOf}
 use Rattle.cases.specs.declared.number.Number.{Number}
 use Rattle.cases.specs.declared.number.Signed.{Signed}
@@ -33,6 +36,7 @@ use Rattle.cases.specs.declared.args.Measured.{Measured}
 use Rattle.cases.specs.declared.args.Colored.{Colored}
 use Rattle.cases.specs.declared.args.Clipped.{Clipped}
 use Rattle.cases.specs.declared.args.Painted.{Painted}
+use Rattle.cases.specs.declared.args.Turned.{Turned}
 use Rattle.cases.proofs.Reading.{inside}
 
 -- Two signed numbers come through a call as they are.
@@ -78,6 +82,25 @@ module _ (line : List ℕ) (at : ℕ) where
       → readBoxed line (record { boxed = record { corner = p .point; size = x .extent; paint = k .paint }; next = k .next }) ≡ boxedOf (leftAt line at)
   unfolding boxedOf
   boxed-is p x k e f g = rw (← e, ← f, ← g)
+
+  pub turn-is : (p : Pointed) → readPoint line p ≡ pointOf (leftAt line at)
+      → readTurn line (record { turn = record { start = p .point .x; sweep = p .point .y }; next = p .next }) ≡ turnOf (leftAt line at)
+  unfolding turnOf
+  turn-is p e = rw (← e)
+
+  pub curve-is : (p : Pointed) (x : Measured) (t : Turned) (k : Painted) → readPoint line p ≡ pointOf (leftAt line at)
+      → readExtent line x ≡ extentOf (leftAt line (p .next)) → readTurn line t ≡ turnOf (leftAt line (x .next))
+      → readPaint line k ≡ paintOf (leftAt line (t .next))
+      → readCurve line (record { curve = record { corner = p .point; size = x .extent; turn = t .turn; paint = k .paint }; next = k .next }) ≡ curveOf (leftAt line at)
+  unfolding curveOf
+  curve-is p x t k e f g h = rw (← e, ← f, ← g, ← h)
+
+  pub rounded-is : (p : Pointed) (x y : Measured) (k : Painted) → readPoint line p ≡ pointOf (leftAt line at)
+      → readExtent line x ≡ extentOf (leftAt line (p .next)) → readExtent line y ≡ extentOf (leftAt line (x .next))
+      → readPaint line k ≡ paintOf (leftAt line (y .next))
+      → readRounded line (record { rounded = record { corner = p .point; size = x .extent; arc = y .extent; paint = k .paint }; next = k .next }) ≡ roundedOf (leftAt line at)
+  unfolding roundedOf
+  rounded-is p x y k e f g h = rw (← e, ← f, ← g, ← h)
 
 pub head-is : (line : List ℕ) (v : Screened) (x : Number) → readScreen line v ≡ screenOf (leftAt line 0) → read line x ≡ numberOf 1 (leftAt line (v .next))
     → readScreen line

@@ -16,17 +16,19 @@ use Rattle.cases.specs.Place.{
   readClip,
   readPaint,
   readBoxed,
+  readCurve,
+  readRounded,
   read,
   readSeed,
   readRow,
   plainRow,
 }
-use Rattle.cases.specs.Args.{screenOf, pointOf, extentOf, clipOf, paintOf, boxedOf}
+use Rattle.cases.specs.Args.{screenOf, pointOf, extentOf, clipOf, paintOf, boxedOf, curveOf, roundedOf}
 use Rattle.cases.specs.Seed.{seedOf, fileOf}
 use Rattle.cases.specs.Number.{numberOf}
-use Rattle.cases.specs.Call.{Asked, plain, putOf, getOf, rectOf, fillOf, invertOf, copyOf, drawOf, lbmpOf, blank}
+use Rattle.cases.specs.Call.{Asked, plain, putOf, getOf, rectOf, fillOf, invertOf, copyOf, drawOf, lbmpOf, segmentOf, arcOf, pieOf, rrectOf, frrectOf, blank}
 use Rattle.cases.specs.declared.call.Call.{Call}
-use Rattle.cases.specs.declared.call.Call.the-variants.{Put, Get, Rect, Fill, Invert, Copy, Draw, Lbmp}
+use Rattle.cases.specs.declared.call.Call.the-variants.{Put, Get, Rect, Fill, Invert, Copy, Draw, Lbmp, Line, Arc, Pie, RoundRect, FillRoundRect}
 use Rattle.cases.specs.declared.call.Row.{Row}
 use Rattle.cases.specs.declared.args.Screened.{Screened}
 use Rattle.cases.specs.declared.args.Pointed.{Pointed}
@@ -34,6 +36,8 @@ use Rattle.cases.specs.declared.args.Measured.{Measured}
 use Rattle.cases.specs.declared.args.Clipped.{Clipped}
 use Rattle.cases.specs.declared.args.Painted.{Painted}
 use Rattle.cases.specs.declared.args.Enclosed.{Enclosed}
+use Rattle.cases.specs.declared.args.Curved.{Curved}
+use Rattle.cases.specs.declared.args.Bent.{Bent}
 use Rattle.cases.specs.declared.number.Number.{Number}
 use Rattle.cases.specs.declared.seed.Seeded.{Seeded}
 use Rattle.cases.proofs.Reading.{found, missed, gone}
@@ -89,6 +93,28 @@ module _ (line : List ℕ) (at : ℕ) where
       → readRow line (record { call = Lbmp (n .value); source = blank; seed = f .seed; next = f .next }) ≡ lbmpOf (leftAt line at)
   unfolding lbmpOf
   lbmp-is n f e₁ e₂ = rw (← e₁, ← e₂)
+
+  pub line-is : (a b : Pointed) (k : Painted) → readPoint line a ≡ pointOf (leftAt line at) → readPoint line b ≡ pointOf (leftAt line (a .next))
+      → readPaint line k ≡ paintOf (leftAt line (b .next))
+      → got (plain (Line (a .point) (b .point) (k .paint))) (leftAt line (k .next)) ≡ segmentOf (leftAt line at)
+  unfolding segmentOf
+  line-is a b k e f g = rw (← e, ← f, ← g)
+
+  pub arc-is : (c : Curved) → readCurve line c ≡ curveOf (leftAt line at) → got (plain (Arc (c .curve))) (leftAt line (c .next)) ≡ arcOf (leftAt line at)
+  unfolding arcOf
+  arc-is c e = rw (← e)
+
+  pub pie-is : (c : Curved) → readCurve line c ≡ curveOf (leftAt line at) → got (plain (Pie (c .curve))) (leftAt line (c .next)) ≡ pieOf (leftAt line at)
+  unfolding pieOf
+  pie-is c e = rw (← e)
+
+  pub rrect-is : (c : Bent) → readRounded line c ≡ roundedOf (leftAt line at) → got (plain (RoundRect (c .rounded))) (leftAt line (c .next)) ≡ rrectOf (leftAt line at)
+  unfolding rrectOf
+  rrect-is c e = rw (← e)
+
+  pub frrect-is : (c : Bent) → readRounded line c ≡ roundedOf (leftAt line at) → got (plain (FillRoundRect (c .rounded))) (leftAt line (c .next)) ≡ frrectOf (leftAt line at)
+  unfolding frrectOf
+  frrect-is c e = rw (← e)
 
 -- A row is read where its name was met, and passed over where it was not.
 pub tried : (f : Left → Got Asked) (c : Got Asked) (line : List ℕ) (i : ℕ) {l : Left} → leftAt line i ≡ l → i < length line + 2 → f (leftAt line i) ≡ orElse l (f l) c

@@ -13,7 +13,7 @@ use borrow.Author.Tests.{lt-ltb, le-ltb, ltb-false}
 use Rattle.cases.specs.Answer.{glyph, spelled, places, decimal, hex, nameText, statusText, imageText, foundText, hashText, placed, lineOf, answered}
 use Rattle.cases.specs.Place.{Wrote}
 use Rattle.cases.specs.declared.answer.Name.{Name}
-use Rattle.cases.specs.declared.answer.Name.the-variants.{Put, Get, Rect, Fill, Invert, Copy, Draw, Lbmp}
+use Rattle.cases.specs.declared.answer.Name.the-variants.{Put, Get, Rect, Fill, Invert, Copy, Draw, Line, Arc, Pie, RoundRect, FillRoundRect, Lbmp}
 use Rattle.cases.specs.declared.answer.Found.{Found}
 use Rattle.cases.specs.declared.answer.Found.the-variants.{Count, Argb, Nothing, Image}
 use Rattle.cases.specs.declared.answer.Answer.{Answer}
@@ -114,6 +114,11 @@ name-most Fill = lit≤ tt
 name-most Invert = lit≤ tt
 name-most Copy = lit≤ tt
 name-most Draw = lit≤ tt
+name-most Line = lit≤ tt
+name-most Arc = lit≤ tt
+name-most Pie = lit≤ tt
+name-most RoundRect = lit≤ tt
+name-most FillRoundRect = lit≤ tt
 name-most Lbmp = lit≤ tt
 
 status-most : (n : ℕ) → length (statusText n) ≤ 28

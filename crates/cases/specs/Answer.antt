@@ -4,9 +4,9 @@ use mathlib.Core.List.{List, [], _∷_, _++_}
 use Prim.Native.Nat.{ℕ, zero, suc, _+_, _/_, _%_}
 use lib.Dec.{ltb}
 use lib.ListN.{length, set}
-use Rattle.cases.specs.Call.{put, get, rect, fill, invert, copy, draw, lbmp}
+use Rattle.cases.specs.Call.{put, get, rect, fill, invert, copy, draw, line, arc, pie, rrect, frrect, lbmp}
 use Rattle.cases.specs.declared.answer.Name.{Name}
-use Rattle.cases.specs.declared.answer.Name.the-variants.{Put, Get, Rect, Fill, Invert, Copy, Draw, Lbmp}
+use Rattle.cases.specs.declared.answer.Name.the-variants.{Put, Get, Rect, Fill, Invert, Copy, Draw, Line, Arc, Pie, RoundRect, FillRoundRect, Lbmp}
 use Rattle.cases.specs.declared.answer.Found.{Found}
 use Rattle.cases.specs.declared.answer.Found.the-variants.{Count, Argb, Nothing, Image}
 use Rattle.cases.specs.declared.answer.Answer.{Answer}
@@ -41,6 +41,11 @@ nameText Fill = fill
 nameText Invert = invert
 nameText Copy = copy
 nameText Draw = draw
+nameText Line = line
+nameText Arc = arc
+nameText Pie = pie
+nameText RoundRect = rrect
+nameText FillRoundRect = frrect
 nameText Lbmp = lbmp
 
 -- "`lbmp` has `w=N h=N clear=N` in the place of count."

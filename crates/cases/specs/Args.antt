@@ -9,6 +9,9 @@ use Rattle.cases.specs.declared.args.Point.{Point}
 use Rattle.cases.specs.declared.args.Extent.{Extent}
 use Rattle.cases.specs.declared.args.Paint.{Paint}
 use Rattle.cases.specs.declared.args.Boxed.{Boxed}
+use Rattle.cases.specs.declared.args.Turn.{Turn}
+use Rattle.cases.specs.declared.args.Curve.{Curve}
+use Rattle.cases.specs.declared.args.Rounded.{Rounded}
 
 -- "F: format number. W, H: sides.", with XOR off.
 unfoldable pub screenOf : Left → Got Canvas
@@ -52,3 +55,23 @@ boxedOf l =
     let p = pointOf l in
     let e = extentOf (p .left) in
     let k = paintOf (e .left) in got (record { corner = p .value; size = e .value; paint = k .value }) (k .left)
+
+-- "start sweep"
+unfoldable pub turnOf : Left → Got Turn
+turnOf l = let p = pointOf l in got (record { start = p .value .x; sweep = p .value .y }) (p .left)
+
+-- "x y w h start sweep COL CLIP"
+unfoldable pub curveOf : Left → Got Curve
+curveOf l =
+    let p = pointOf l in
+    let e = extentOf (p .left) in
+    let t = turnOf (e .left) in
+    let k = paintOf (t .left) in got (record { corner = p .value; size = e .value; turn = t .value; paint = k .value }) (k .left)
+
+-- "x y w h aw ah COL CLIP"
+unfoldable pub roundedOf : Left → Got Rounded
+roundedOf l =
+    let p = pointOf l in
+    let e = extentOf (p .left) in
+    let a = extentOf (e .left) in
+    let k = paintOf (a .left) in got (record { corner = p .value; size = e .value; arc = a .value; paint = k .value }) (k .left)

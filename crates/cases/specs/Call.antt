@@ -6,10 +6,10 @@ use lib.IntN.{pos}
 use Rattle.canvas.specs.declared.Canvas.{Canvas}
 use Rattle.cases.specs.Line.{Left, lost, Got, got, orElse}
 use Rattle.cases.specs.Number.{numberOf, named}
-use Rattle.cases.specs.Args.{screenOf, pointOf, extentOf, clipOf, paintOf, boxedOf}
+use Rattle.cases.specs.Args.{screenOf, pointOf, extentOf, clipOf, paintOf, boxedOf, curveOf, roundedOf}
 use Rattle.cases.specs.Seed.{Sown, given, seedOf, fileOf}
 use Rattle.cases.specs.declared.call.Call.{Call}
-use Rattle.cases.specs.declared.call.Call.the-variants.{Put, Get, Rect, Fill, Invert, Copy, Draw, Lbmp}
+use Rattle.cases.specs.declared.call.Call.the-variants.{Put, Get, Rect, Fill, Invert, Copy, Draw, Lbmp, Line, Arc, Pie, RoundRect, FillRoundRect}
 
 -- What a row asks for: a call, and an image beside the canvas with what it holds first, or a file's bytes.
 pub record Asked : Type 0 where
@@ -65,6 +65,27 @@ drawOf l =
     let k = clipOf (s .left) in
     got (record { call = Draw (d .value) (e .value) (v .value) (s .value) (k .value); source = v .value; seed = t .value }) (k .left)
 
+-- "line | x1 y1 x2 y2 COL CLIP"
+unfoldable pub segmentOf : Left → Got Asked
+segmentOf l =
+    let a = pointOf l in
+    let b = pointOf (a .left) in
+    let k = paintOf (b .left) in got (plain (Line (a .value) (b .value) (k .value))) (k .left)
+
+-- "arc, pie | x y w h start sweep COL CLIP"
+unfoldable pub arcOf : Left → Got Asked
+arcOf l = let c = curveOf l in got (plain (Arc (c .value))) (c .left)
+
+unfoldable pub pieOf : Left → Got Asked
+pieOf l = let c = curveOf l in got (plain (Pie (c .value))) (c .left)
+
+-- "rrect, frrect | x y w h aw ah COL CLIP"
+unfoldable pub rrectOf : Left → Got Asked
+rrectOf l = let c = roundedOf l in got (plain (RoundRect (c .value))) (c .left)
+
+unfoldable pub frrectOf : Left → Got Asked
+frrectOf l = let c = roundedOf l in got (plain (FillRoundRect (c .value))) (c .left)
+
 -- "lbmp | ROOM HEX"
 unfoldable pub lbmpOf : Left → Got Asked
 lbmpOf l =
@@ -95,6 +116,21 @@ draw = 100 ∷ 114 ∷ 97 ∷ 119 ∷ []
 abbrev pub lbmp : List ℕ
 lbmp = 108 ∷ 98 ∷ 109 ∷ 112 ∷ []
 
+abbrev pub line : List ℕ
+line = 108 ∷ 105 ∷ 110 ∷ 101 ∷ []
+
+abbrev pub arc : List ℕ
+arc = 97 ∷ 114 ∷ 99 ∷ []
+
+abbrev pub pie : List ℕ
+pie = 112 ∷ 105 ∷ 101 ∷ []
+
+abbrev pub rrect : List ℕ
+rrect = 114 ∷ 114 ∷ 101 ∷ 99 ∷ 116 ∷ []
+
+abbrev pub frrect : List ℕ
+frrect = 102 ∷ 114 ∷ 114 ∷ 101 ∷ 99 ∷ 116 ∷ []
+
 -- The row of a name where that is the first word, and else another.
 abbrev pub row : List ℕ → (Left → Got Asked) → Left → Got Asked → Got Asked
 row n f l g = orElse (named n l) (f (named n l)) g
@@ -103,9 +139,12 @@ row n f l g = orElse (named n l) (f (named n l)) g
 abbrev pub noRow : Got Asked
 noRow = got (plain (Get (record { x = pos 0; y = pos 0 }))) lost
 
--- The row whose name is the first word, looked for in three parts of the table.
+-- The row whose name is the first word, looked for in parts of the table.
+unfoldable pub curveRowOf : Left → Got Asked
+curveRowOf l = row line segmentOf l (row arc arcOf l (row pie pieOf l (row rrect rrectOf l (row frrect frrectOf l noRow))))
+
 unfoldable pub imageRowOf : Left → Got Asked
-imageRowOf l = row copy copyOf l (row draw drawOf l (row lbmp lbmpOf l noRow))
+imageRowOf l = row copy copyOf l (row draw drawOf l (row lbmp lbmpOf l (curveRowOf l)))
 
 unfoldable pub boxRowOf : Left → Got Asked
 boxRowOf l = row rect rectOf l (row fill fillOf l (row invert invertOf l (imageRowOf l)))

@@ -26,6 +26,12 @@ use Rattle.cases.specs.declared.args.Colored.{Colored}
 use Rattle.cases.specs.declared.args.Clipped.{Clipped}
 use Rattle.cases.specs.declared.args.Painted.{Painted}
 use Rattle.cases.specs.declared.args.Enclosed.{Enclosed}
+use Rattle.cases.specs.declared.args.Turn.{Turn}
+use Rattle.cases.specs.declared.args.Curve.{Curve}
+use Rattle.cases.specs.declared.args.Rounded.{Rounded}
+use Rattle.cases.specs.declared.args.Turned.{Turned}
+use Rattle.cases.specs.declared.args.Curved.{Curved}
+use Rattle.cases.specs.declared.args.Bent.{Bent}
 use Rattle.cases.specs.declared.call.Call.{Call}
 use Rattle.cases.specs.declared.call.Row.{Row}
 use Rattle.cases.specs.declared.seed.Seed.{Seed}
@@ -63,6 +69,15 @@ readPaint line r = got (r .paint) (leftAt line (r .next))
 
 abbrev pub readBoxed : List ℕ → Enclosed → Got Boxed
 readBoxed line r = got (r .boxed) (leftAt line (r .next))
+
+abbrev pub readTurn : List ℕ → Turned → Got Turn
+readTurn line r = got (r .turn) (leftAt line (r .next))
+
+abbrev pub readCurve : List ℕ → Curved → Got Curve
+readCurve line r = got (r .curve) (leftAt line (r .next))
+
+abbrev pub readRounded : List ℕ → Bent → Got Rounded
+readRounded line r = got (r .rounded) (leftAt line (r .next))
 
 -- The bytes that 2n hex digits of a line are, from an index on.
 unfoldable pub pairs : List ℕ → ℕ → ℕ → List ℕ

@@ -15,6 +15,11 @@ pub enum Name {
     Invert,
     Copy,
     Draw,
+    Line,
+    Arc,
+    Pie,
+    RoundRect,
+    FillRoundRect,
     Lbmp,
 }
 
@@ -121,6 +126,11 @@ fn put_name(out: &mut [u8], n: Name) -> usize
         Name::Invert => put_text(out, 0, b"invert"),
         Name::Copy => put_text(out, 0, b"copy"),
         Name::Draw => put_text(out, 0, b"draw"),
+        Name::Line => put_text(out, 0, b"line"),
+        Name::Arc => put_text(out, 0, b"arc"),
+        Name::Pie => put_text(out, 0, b"pie"),
+        Name::RoundRect => put_text(out, 0, b"rrect"),
+        Name::FillRoundRect => put_text(out, 0, b"frrect"),
         Name::Lbmp => put_text(out, 0, b"lbmp"),
     }
 }

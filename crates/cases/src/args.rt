@@ -2,7 +2,9 @@
 ghost use mathlib.Core.Path.{_≡_};
 ghost use Rattle.cases.specs.Place.{leftAt, readScreen, readPoint, readExtent, readColor};
 ghost use Rattle.cases.specs.Place.{readClip, readPaint, readBoxed};
+ghost use Rattle.cases.specs.Place.{readTurn, readCurve, readRounded};
 ghost use Rattle.cases.specs.Args.{screenOf, pointOf, extentOf, colorOf, clipOf, paintOf, boxedOf};
+ghost use Rattle.cases.specs.Args.{turnOf, curveOf, roundedOf};
 use crate::number::read_number;
 use crate::number::read_signed;
 use canvas::Canvas;
@@ -27,6 +29,26 @@ pub struct Paint {
 pub struct Boxed {
     pub corner: Point,
     pub size: Extent,
+    pub paint: Paint,
+}
+
+// Degrees: where an arc begins, and how far it goes.
+pub struct Turn {
+    pub start: i32,
+    pub sweep: i32,
+}
+
+pub struct Curve {
+    pub corner: Point,
+    pub size: Extent,
+    pub turn: Turn,
+    pub paint: Paint,
+}
+
+pub struct Rounded {
+    pub corner: Point,
+    pub size: Extent,
+    pub arc: Extent,
     pub paint: Paint,
 }
 
@@ -63,6 +85,21 @@ pub(crate) struct Painted {
 
 pub(crate) struct Enclosed {
     pub boxed: Boxed,
+    pub next: usize,
+}
+
+struct Turned {
+    turn: Turn,
+    next: usize,
+}
+
+pub(crate) struct Curved {
+    pub curve: Curve,
+    pub next: usize,
+}
+
+pub(crate) struct Bent {
+    pub rounded: Rounded,
     pub next: usize,
 }
 
@@ -174,6 +211,64 @@ pub(crate) fn read_boxed(line: &[u8], at: usize) -> Enclosed
         boxed: Boxed {
             corner,
             size,
+            paint,
+        },
+        next: k.next,
+    }
+}
+
+fn read_turn(line: &[u8], at: usize) -> Turned
+    ensures { λ r. ⌜ readTurn (now (line .entry)) r ≡ turnOf (leftAt (now (line .entry)) at) ⌝ }
+{
+    let p = read_point(line, at);
+    let point = p.point;
+    Turned {
+        turn: Turn {
+            start: point.x,
+            sweep: point.y,
+        },
+        next: p.next,
+    }
+}
+
+pub(crate) fn read_curve(line: &[u8], at: usize) -> Curved
+    ensures { λ r. ⌜ readCurve (now (line .entry)) r ≡ curveOf (leftAt (now (line .entry)) at) ⌝ }
+{
+    let p = read_point(line, at);
+    let e = read_extent(line, p.next);
+    let t = read_turn(line, e.next);
+    let k = read_paint(line, t.next);
+    let corner = p.point;
+    let size = e.extent;
+    let turn = t.turn;
+    let paint = k.paint;
+    Curved {
+        curve: Curve {
+            corner,
+            size,
+            turn,
+            paint,
+        },
+        next: k.next,
+    }
+}
+
+pub(crate) fn read_rounded(line: &[u8], at: usize) -> Bent
+    ensures { λ r. ⌜ readRounded (now (line .entry)) r ≡ roundedOf (leftAt (now (line .entry)) at) ⌝ }
+{
+    let p = read_point(line, at);
+    let e = read_extent(line, p.next);
+    let a = read_extent(line, e.next);
+    let k = read_paint(line, a.next);
+    let corner = p.point;
+    let size = e.extent;
+    let arc = a.extent;
+    let paint = k.paint;
+    Bent {
+        rounded: Rounded {
+            corner,
+            size,
+            arc,
             paint,
         },
         next: k.next,

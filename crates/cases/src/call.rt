@@ -3,15 +3,20 @@ ghost use mathlib.Core.Path.{_≡_};
 ghost use Rattle.cases.specs.Place.{leftAt, readRow, plainRow, Within};
 ghost use Rattle.cases.specs.Call.{putOf, getOf, rectOf, fillOf, invertOf, copyOf, drawOf, lbmpOf};
 ghost use Rattle.cases.specs.Call.{rowOf, boxRowOf, imageRowOf};
+ghost use Rattle.cases.specs.Call.{segmentOf, arcOf, pieOf, rrectOf, frrectOf, curveRowOf};
 use crate::args::Boxed;
+use crate::args::Curve;
 use crate::args::Extent;
 use crate::args::Paint;
 use crate::args::Point;
+use crate::args::Rounded;
 use crate::args::read_boxed;
 use crate::args::read_clip;
+use crate::args::read_curve;
 use crate::args::read_extent;
 use crate::args::read_paint;
 use crate::args::read_point;
+use crate::args::read_rounded;
 use crate::args::read_screen;
 use crate::number::named;
 use crate::number::read_number;
@@ -47,6 +52,15 @@ pub enum Call {
         from: Point,
         clip: Clip,
     },
+    Line {
+        from: Point,
+        to: Point,
+        paint: Paint,
+    },
+    Arc(Curve),
+    Pie(Curve),
+    RoundRect(Rounded),
+    FillRoundRect(Rounded),
     // A file that is read into so many words.
     Lbmp(u32),
 }
@@ -198,6 +212,55 @@ fn read_lbmp(line: &[u8], at: usize) -> Row
     }
 }
 
+fn read_line(line: &[u8], at: usize) -> Row
+    ensures { λ r. ⌜ readRow (now (line .entry)) r ≡ segmentOf (leftAt (now (line .entry)) at) ⌝ }
+    ensures { λ r. ⌜ Within (now (line .entry)) (r .seed) ⌝ }
+{
+    let a = read_point(line, at);
+    let b = read_point(line, a.next);
+    let k = read_paint(line, b.next);
+    let from = a.point;
+    let to = b.point;
+    let paint = k.paint;
+    plain(Call::Line { from, to, paint }, k.next)
+}
+
+fn read_arc(line: &[u8], at: usize) -> Row
+    ensures { λ r. ⌜ readRow (now (line .entry)) r ≡ arcOf (leftAt (now (line .entry)) at) ⌝ }
+    ensures { λ r. ⌜ Within (now (line .entry)) (r .seed) ⌝ }
+{
+    let c = read_curve(line, at);
+    let curve = c.curve;
+    plain(Call::Arc(curve), c.next)
+}
+
+fn read_pie(line: &[u8], at: usize) -> Row
+    ensures { λ r. ⌜ readRow (now (line .entry)) r ≡ pieOf (leftAt (now (line .entry)) at) ⌝ }
+    ensures { λ r. ⌜ Within (now (line .entry)) (r .seed) ⌝ }
+{
+    let c = read_curve(line, at);
+    let curve = c.curve;
+    plain(Call::Pie(curve), c.next)
+}
+
+fn read_rrect(line: &[u8], at: usize) -> Row
+    ensures { λ r. ⌜ readRow (now (line .entry)) r ≡ rrectOf (leftAt (now (line .entry)) at) ⌝ }
+    ensures { λ r. ⌜ Within (now (line .entry)) (r .seed) ⌝ }
+{
+    let c = read_rounded(line, at);
+    let rounded = c.rounded;
+    plain(Call::RoundRect(rounded), c.next)
+}
+
+fn read_frrect(line: &[u8], at: usize) -> Row
+    ensures { λ r. ⌜ readRow (now (line .entry)) r ≡ frrectOf (leftAt (now (line .entry)) at) ⌝ }
+    ensures { λ r. ⌜ Within (now (line .entry)) (r .seed) ⌝ }
+{
+    let c = read_rounded(line, at);
+    let rounded = c.rounded;
+    plain(Call::FillRoundRect(rounded), c.next)
+}
+
 // The row at a place, by its name.
 pub(crate) fn read_row(line: &[u8], at: usize) -> Row
     ensures { λ r. ⌜ readRow (now (line .entry)) r ≡ rowOf (leftAt (now (line .entry)) at) ⌝ }
@@ -234,7 +297,7 @@ fn read_box_row(line: &[u8], at: usize) -> Row
     read_image_row(line, at)
 }
 
-// The row of an area copied, an image drawn or a file read; what has no row is lost.
+// The row of an area copied, an image drawn or a file read, or of what comes after them.
 fn read_image_row(line: &[u8], at: usize) -> Row
     ensures { λ r. ⌜ readRow (now (line .entry)) r ≡ imageRowOf (leftAt (now (line .entry)) at) ⌝ }
     ensures { λ r. ⌜ Within (now (line .entry)) (r .seed) ⌝ }
@@ -250,6 +313,34 @@ fn read_image_row(line: &[u8], at: usize) -> Row
     let l = named(line, at, b"lbmp");
     if l < line.len() + 2 {
         return read_lbmp(line, l);
+    }
+    read_curve_row(line, at)
+}
+
+// The row of a line or a curve; what has no row is lost.
+fn read_curve_row(line: &[u8], at: usize) -> Row
+    ensures { λ r. ⌜ readRow (now (line .entry)) r ≡ curveRowOf (leftAt (now (line .entry)) at) ⌝ }
+    ensures { λ r. ⌜ Within (now (line .entry)) (r .seed) ⌝ }
+{
+    let l = named(line, at, b"line");
+    if l < line.len() + 2 {
+        return read_line(line, l);
+    }
+    let a = named(line, at, b"arc");
+    if a < line.len() + 2 {
+        return read_arc(line, a);
+    }
+    let p = named(line, at, b"pie");
+    if p < line.len() + 2 {
+        return read_pie(line, p);
+    }
+    let q = named(line, at, b"rrect");
+    if q < line.len() + 2 {
+        return read_rrect(line, q);
+    }
+    let f = named(line, at, b"frrect");
+    if f < line.len() + 2 {
+        return read_frrect(line, f);
     }
     plain(Call::Get(Point { x: 0, y: 0 }), line.len() + 2)
 }

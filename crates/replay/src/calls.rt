@@ -176,7 +176,16 @@ pub(crate) fn run(v: Canvas, bytes: &mut [u8], c: Call, image: &[u8], out: &mut 
             from,
             clip,
         } => draw(v, bytes, corner, size, source, image, from, clip, out),
-        // Until the reader of such files is here.
+        // Until these calls and the reader of such files are here.
+        Call::Line {
+            from: _,
+            to: _,
+            paint: _,
+        } => bad(out),
+        Call::Arc(_) => bad(out),
+        Call::Pie(_) => bad(out),
+        Call::RoundRect(_) => bad(out),
+        Call::FillRoundRect(_) => bad(out),
         Call::Lbmp(_) => bad(out),
     }
 }

@@ -77,6 +77,51 @@ slice-aggregate-put-text-8 c = search needs
 put-text-requires-8 : tie.Need-put-text-requires-8
 put-text-requires-8 c κs = search needs
 
+enum-told-9 : tie.Need-enum-told-9
+enum-told-9 c = search needs
+
+slice-aggregate-put-text-9 : tie.Need-slice-aggregate-put-text-9
+slice-aggregate-put-text-9 c = search needs
+
+put-text-requires-9 : tie.Need-put-text-requires-9
+put-text-requires-9 c κs = search needs
+
+enum-told-10 : tie.Need-enum-told-10
+enum-told-10 c = search needs
+
+slice-aggregate-put-text-10 : tie.Need-slice-aggregate-put-text-10
+slice-aggregate-put-text-10 c = search needs
+
+put-text-requires-10 : tie.Need-put-text-requires-10
+put-text-requires-10 c κs = search needs
+
+enum-told-11 : tie.Need-enum-told-11
+enum-told-11 c = search needs
+
+slice-aggregate-put-text-11 : tie.Need-slice-aggregate-put-text-11
+slice-aggregate-put-text-11 c = search needs
+
+put-text-requires-11 : tie.Need-put-text-requires-11
+put-text-requires-11 c κs = search needs
+
+enum-told-12 : tie.Need-enum-told-12
+enum-told-12 c = search needs
+
+slice-aggregate-put-text-12 : tie.Need-slice-aggregate-put-text-12
+slice-aggregate-put-text-12 c = search needs
+
+put-text-requires-12 : tie.Need-put-text-requires-12
+put-text-requires-12 c κs = search needs
+
+enum-told-13 : tie.Need-enum-told-13
+enum-told-13 c = search needs
+
+slice-aggregate-put-text-13 : tie.Need-slice-aggregate-put-text-13
+slice-aggregate-put-text-13 c = search needs
+
+put-text-requires-13 : tie.Need-put-text-requires-13
+put-text-requires-13 c κs = search needs
+
 same-length : tie.Need-same-length
 same-length c = search needs
 
@@ -149,6 +194,51 @@ returns-8 c =
     let put-text8 = c .before .before .put-text8 in
     (rw (c .before .before .before .before .before .enum-told8 .given .1) (put-text8 .ensures), omega (arith, put-text8 .ensures .to))
 
+same-length-9 : tie.Need-same-length-9
+same-length-9 c = search needs
+
+returns-9 : tie.Need-returns-9
+unfolding nameText
+returns-9 c =
+    let put-text9 = c .before .before .put-text9 in
+    (rw (c .before .before .before .before .before .enum-told9 .given .1) (put-text9 .ensures), omega (arith, put-text9 .ensures .to))
+
+same-length-10 : tie.Need-same-length-10
+same-length-10 c = search needs
+
+returns-10 : tie.Need-returns-10
+unfolding nameText
+returns-10 c =
+    let put-text10 = c .before .before .put-text10 in
+    (rw (c .before .before .before .before .before .enum-told10 .given .1) (put-text10 .ensures), omega (arith, put-text10 .ensures .to))
+
+same-length-11 : tie.Need-same-length-11
+same-length-11 c = search needs
+
+returns-11 : tie.Need-returns-11
+unfolding nameText
+returns-11 c =
+    let put-text11 = c .before .before .put-text11 in
+    (rw (c .before .before .before .before .before .enum-told11 .given .1) (put-text11 .ensures), omega (arith, put-text11 .ensures .to))
+
+same-length-12 : tie.Need-same-length-12
+same-length-12 c = search needs
+
+returns-12 : tie.Need-returns-12
+unfolding nameText
+returns-12 c =
+    let put-text12 = c .before .before .put-text12 in
+    (rw (c .before .before .before .before .before .enum-told12 .given .1) (put-text12 .ensures), omega (arith, put-text12 .ensures .to))
+
+same-length-13 : tie.Need-same-length-13
+same-length-13 c = search needs
+
+returns-13 : tie.Need-returns-13
+unfolding nameText
+returns-13 c =
+    let put-text13 = c .before .before .put-text13 in
+    (rw (c .before .before .before .before .before .enum-told13 .given .1) (put-text13 .ensures), omega (arith, put-text13 .ensures .to))
+
 pub put-name-spec : {M : Type 1} → statement M
 put-name-spec =
     tie.close
@@ -177,6 +267,21 @@ put-name-spec =
     enum-told-8
     slice-aggregate-put-text-8
     put-text-requires-8
+    enum-told-9
+    slice-aggregate-put-text-9
+    put-text-requires-9
+    enum-told-10
+    slice-aggregate-put-text-10
+    put-text-requires-10
+    enum-told-11
+    slice-aggregate-put-text-11
+    put-text-requires-11
+    enum-told-12
+    slice-aggregate-put-text-12
+    put-text-requires-12
+    enum-told-13
+    slice-aggregate-put-text-13
+    put-text-requires-13
     same-length
     returns
     same-length-2
@@ -192,4 +297,14 @@ put-name-spec =
     same-length-7
     returns-7
     same-length-8
-    returns-8)
+    returns-8
+    same-length-9
+    returns-9
+    same-length-10
+    returns-10
+    same-length-11
+    returns-11
+    same-length-12
+    returns-12
+    same-length-13
+    returns-13)

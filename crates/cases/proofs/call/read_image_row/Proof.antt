@@ -1,7 +1,7 @@
--- `read_image_row` tries the names that are left; what has none is lost.
+-- `read_image_row` tries the names of areas, images and files, and then the others.
 use mathlib.Core.Path.{_∙_}
 use Rattle.cases.specs.Call.{imageRowOf, copyOf, drawOf, lbmpOf}
-use Rattle.cases.proofs.Calls.{tried, passed, plain-is, no-row}
+use Rattle.cases.proofs.Calls.{tried, passed}
 use borrow.Author.Needs.{needs}
 use Rattle.cases.proofs.call.read_image_row.Statement.{statement}
 use Rattle.cases.proofs.call.read_image_row.Tie as tie
@@ -69,21 +69,18 @@ returns-3 c =
     let named = c .before .before .before .before .before .before .before .before .named in
     (read-lbmp .ensures .0 ∙ tried lbmpOf _ (a .line .now) (named3 .result) (named3 .ensures) (c .before .if3 .taken) ∙ passed drawOf _ (a .line .now) (named2 .result) (named2 .ensures) (c .before .before .before .before .if2 .left) ∙ passed copyOf _ (a .line .now) (named .result) (named .ensures) (c .before .before .before .before .before .before .before .if1 .left), read-lbmp .ensures .1)
 
-add-plain : tie.Need-add-plain
-add-plain c = search needs
-
-plain-requires : tie.Need-plain-requires
-plain-requires c κs = search needs
+read-curve-row-requires : tie.Need-read-curve-row-requires
+read-curve-row-requires c κs = search needs
 
 returns-4 : tie.Need-returns-4
 unfolding imageRowOf
 returns-4 c =
+    let read-curve-row = c .read-curve-row in
     let a = c .before .before .before .before .before .before .before .before .before .before .before .args in
-    let plain = c .plain in
     let named3 = c .before .before .named3 in
     let named2 = c .before .before .before .before .before .named2 in
     let named = c .before .before .before .before .before .before .before .before .named in
-    plain-is (a .line .now) (plain .result) _ _ (plain .ensures) (no-row _ (a .line .now) ∙ passed lbmpOf _ (a .line .now) (named3 .result) (named3 .ensures) (c .before .if3 .left) ∙ passed drawOf _ (a .line .now) (named2 .result) (named2 .ensures) (c .before .before .before .before .if2 .left) ∙ passed copyOf _ (a .line .now) (named .result) (named .ensures) (c .before .before .before .before .before .before .before .if1 .left))
+    (read-curve-row .ensures .0 ∙ passed lbmpOf _ (a .line .now) (named3 .result) (named3 .ensures) (c .before .if3 .left) ∙ passed drawOf _ (a .line .now) (named2 .result) (named2 .ensures) (c .before .before .before .before .if2 .left) ∙ passed copyOf _ (a .line .now) (named .result) (named .ensures) (c .before .before .before .before .before .before .before .if1 .left), read-curve-row .ensures .1)
 
 pub read-image-row-spec : {M : Type 1} → statement M
 read-image-row-spec =
@@ -104,6 +101,5 @@ read-image-row-spec =
     add-if3
     read-lbmp-requires
     returns-3
-    add-plain
-    plain-requires
+    read-curve-row-requires
     returns-4)
