@@ -7,10 +7,13 @@ use canvas::Clip;
 use canvas::Drawn;
 use canvas::Pixel;
 use cases::Answer;
+use cases::Boxed;
 use cases::Call;
+use cases::Extent;
 use cases::Found;
 use cases::Name;
-use words::Color;
+use cases::Paint;
+use cases::Point;
 
 // What a drawing call answers.
 fn drawn(name: Name, d: Drawn, bytes: &[u8]) -> Answer {
@@ -53,42 +56,88 @@ fn reply(a: Answer, out: &mut [u8]) -> usize
     cases::write(a, out)
 }
 
-fn put(
-    v: Canvas,
-    bytes: &mut [u8],
-    x: i32,
-    y: i32,
-    color: Color,
-    clip: Clip,
-    out: &mut [u8],
-) -> usize
+fn put(v: Canvas, bytes: &mut [u8], p: Point, k: Paint, out: &mut [u8]) -> usize
     ensures { λ r. ⌜ r ≤ length (now (out .entry)) ⌝ }
 {
-    let d = canvas::put_pixel(v, bytes, x, y, color, clip);
+    let d = canvas::put_pixel(v, bytes, p.x, p.y, k.color, k.clip);
     reply(drawn(Name::Put, d, bytes), out)
 }
 
-fn get(v: Canvas, bytes: &[u8], x: i32, y: i32, out: &mut [u8]) -> usize
+fn get(v: Canvas, bytes: &[u8], p: Point, out: &mut [u8]) -> usize
     ensures { λ r. ⌜ r ≤ length (now (out .entry)) ⌝ }
 {
-    reply(seen(canvas::get_pixel(v, bytes, x, y), bytes), out)
+    reply(seen(canvas::get_pixel(v, bytes, p.x, p.y), bytes), out)
 }
 
-fn fill(
+fn rect(v: Canvas, bytes: &mut [u8], b: Boxed, out: &mut [u8]) -> usize
+    ensures { λ r. ⌜ r ≤ length (now (out .entry)) ⌝ }
+{
+    let p = b.corner;
+    let e = b.size;
+    let k = b.paint;
+    let d = canvas::draw_rect(v, bytes, p.x, p.y, e.w, e.h, k.color, k.clip);
+    reply(drawn(Name::Rect, d, bytes), out)
+}
+
+fn fill(v: Canvas, bytes: &mut [u8], b: Boxed, out: &mut [u8]) -> usize
+    ensures { λ r. ⌜ r ≤ length (now (out .entry)) ⌝ }
+{
+    let p = b.corner;
+    let e = b.size;
+    let k = b.paint;
+    let d = canvas::fill_rect(v, bytes, p.x, p.y, e.w, e.h, k.color, k.clip);
+    reply(drawn(Name::Fill, d, bytes), out)
+}
+
+fn invert(v: Canvas, bytes: &mut [u8], p: Point, e: Extent, clip: Clip, out: &mut [u8]) -> usize
+    ensures { λ r. ⌜ r ≤ length (now (out .entry)) ⌝ }
+{
+    let d = canvas::invert_rect(v, bytes, p.x, p.y, e.w, e.h, clip);
+    reply(drawn(Name::Invert, d, bytes), out)
+}
+
+fn copy(
     v: Canvas,
     bytes: &mut [u8],
-    x: i32,
-    y: i32,
-    w: u32,
-    h: u32,
-    color: Color,
+    to: Point,
+    from: Point,
+    e: Extent,
     clip: Clip,
     out: &mut [u8],
 ) -> usize
     ensures { λ r. ⌜ r ≤ length (now (out .entry)) ⌝ }
 {
-    let d = canvas::fill_rect(v, bytes, x, y, w, h, color, clip);
-    reply(drawn(Name::Fill, d, bytes), out)
+    let d = canvas::copy_area(v, bytes, to.x, to.y, from.x, from.y, e.w, e.h, clip);
+    reply(drawn(Name::Copy, d, bytes), out)
+}
+
+fn draw(
+    v: Canvas,
+    bytes: &mut [u8],
+    to: Point,
+    e: Extent,
+    source: Canvas,
+    image: &[u8],
+    from: Point,
+    clip: Clip,
+    out: &mut [u8],
+) -> usize
+    ensures { λ r. ⌜ r ≤ length (now (out .entry)) ⌝ }
+{
+    let d = canvas::draw(
+        v,
+        bytes,
+        to.x,
+        to.y,
+        e.w,
+        e.h,
+        source,
+        image,
+        from.x,
+        from.y,
+        clip,
+    );
+    reply(drawn(Name::Draw, d, bytes), out)
 }
 
 pub(crate) fn bad(out: &mut [u8]) -> usize
@@ -104,21 +153,39 @@ pub(crate) fn bad(out: &mut [u8]) -> usize
     4
 }
 
-// Makes the call on the case's bytes, and puts the answer at the start of out.
-pub(crate) fn run(v: Canvas, bytes: &mut [u8], c: Call, out: &mut [u8]) -> usize
+// Makes the call on the case's bytes and image, and puts the answer at the start of out.
+pub(crate) fn run(v: Canvas, bytes: &mut [u8], c: Call, image: &[u8], out: &mut [u8]) -> usize
     ensures { λ r. ⌜ r ≤ length (now (out .entry)) ⌝ }
 {
     match c {
-        Call::Bad => bad(out),
-        Call::Put { x, y, color, clip } => put(v, bytes, x, y, color, clip, out),
-        Call::Get { x, y } => get(v, bytes, x, y, out),
-        Call::Fill {
-            x,
-            y,
-            w,
-            h,
-            color,
+        Call::Put { point, paint } => put(v, bytes, point, paint, out),
+        Call::Get(point) => get(v, bytes, point, out),
+        Call::Rect(b) => rect(v, bytes, b, out),
+        Call::Fill(b) => fill(v, bytes, b, out),
+        Call::Invert { corner, size, clip } => invert(v, bytes, corner, size, clip, out),
+        Call::Copy {
+            to,
+            from,
+            size,
             clip,
-        } => fill(v, bytes, x, y, w, h, color, clip, out),
+        } => copy(v, bytes, to, from, size, clip, out),
+        Call::Draw {
+            corner,
+            size,
+            source,
+            from,
+            clip,
+        } => draw(v, bytes, corner, size, source, image, from, clip, out),
+        // Until these calls and the reader of such files are here.
+        Call::Line {
+            from: _,
+            to: _,
+            paint: _,
+        } => bad(out),
+        Call::Arc(_) => bad(out),
+        Call::Pie(_) => bad(out),
+        Call::RoundRect(_) => bad(out),
+        Call::FillRoundRect(_) => bad(out),
+        Call::Lbmp(_) => bad(out),
     }
 }

@@ -4,9 +4,9 @@ use lib.IntN.{ℤ}
 use borrow.Author.Needs.{needs}
 use Rattle.cases.specs.Line.{got}
 use Rattle.cases.specs.Place.{leftAt}
-use Rattle.cases.proofs.Calls.{signs, point-is}
-use Rattle.cases.proofs.call.read_point.Statement.{statement}
-use Rattle.cases.proofs.call.read_point.Tie as tie
+use Rattle.cases.proofs.Arguments.{signs, point-is}
+use Rattle.cases.proofs.args.read_point.Statement.{statement}
+use Rattle.cases.proofs.args.read_point.Tie as tie
 
 read-signed-requires : tie.Need-read-signed-requires
 read-signed-requires c κs = search needs

@@ -1,9 +1,9 @@
 -- `read_color` reads four numbers, each of which a byte holds.
 use native.Mathlib.Omega.{arith}
 use borrow.Author.Needs.{needs}
-use Rattle.cases.proofs.Calls.{color-is}
-use Rattle.cases.proofs.call.read_color.Statement.{statement}
-use Rattle.cases.proofs.call.read_color.Tie as tie
+use Rattle.cases.proofs.Arguments.{color-is}
+use Rattle.cases.proofs.args.read_color.Statement.{statement}
+use Rattle.cases.proofs.args.read_color.Tie as tie
 
 read-number-requires : tie.Need-read-number-requires
 read-number-requires c κs = search needs

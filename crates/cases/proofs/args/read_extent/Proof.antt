@@ -1,8 +1,8 @@
 -- `read_extent` reads two numbers.
 use borrow.Author.Needs.{needs}
-use Rattle.cases.proofs.Calls.{extent-is}
-use Rattle.cases.proofs.call.read_extent.Statement.{statement}
-use Rattle.cases.proofs.call.read_extent.Tie as tie
+use Rattle.cases.proofs.Arguments.{extent-is}
+use Rattle.cases.proofs.args.read_extent.Statement.{statement}
+use Rattle.cases.proofs.args.read_extent.Tie as tie
 
 read-number-requires : tie.Need-read-number-requires
 read-number-requires c κs = search needs
