@@ -14,6 +14,7 @@ use cases::Found;
 use cases::Name;
 use cases::Paint;
 use cases::Point;
+use lbmp::Judged;
 
 // What a drawing call answers.
 fn drawn(name: Name, d: Drawn, bytes: &[u8]) -> Answer {
@@ -96,6 +97,72 @@ fn invert(v: Canvas, bytes: &mut [u8], p: Point, e: Extent, clip: Clip, out: &mu
     reply(drawn(Name::Invert, d, bytes), out)
 }
 
+// What the reading of a file answers; the words are those that it wrote, or none.
+fn decoded(j: Judged, words: &[u32]) -> Answer {
+    let hash = cases::hash_words(words);
+    match j {
+        Judged::Refused(r) => Answer {
+            name: Name::Lbmp,
+            status: r.number(),
+            found: Found::Image {
+                w: 0,
+                h: 0,
+                clear: 0,
+            },
+            hash,
+        },
+        Judged::Sound(i) => Answer {
+            name: Name::Lbmp,
+            status: 0,
+            found: Found::Image {
+                w: i.width,
+                h: i.height,
+                clear: i.clear,
+            },
+            hash,
+        },
+    }
+}
+
+// How many words a file's reading wrote.
+fn written(j: Judged) -> usize {
+    match j {
+        Judged::Refused(_) => 0,
+        Judged::Sound(i) => i.width as usize * i.height as usize,
+    }
+}
+
+// Reads a file into the words lent.
+fn decode(file: &[u8], words: &mut [u32], out: &mut [u8]) -> usize
+    ensures { λ r. ⌜ r ≤ length (now (out .entry)) ⌝ }
+{
+    let j = lbmp::decode_lbmp(file, words);
+    let n = written(j);
+    if words.len() < n {
+        return bad(out);
+    }
+    reply(decoded(j, &words[..n]), out)
+}
+
+// Lends as many words as the case says, or all where it says more.
+fn lend(file: &[u8], room: u32, words: &mut [u32], out: &mut [u8]) -> usize
+    ensures { λ r. ⌜ r ≤ length (now (out .entry)) ⌝ }
+{
+    let n = room as usize;
+    if words.len() < n {
+        return decode(file, words, out);
+    }
+    decode(file, &mut words[..n], out)
+}
+
+// No file that a line holds has as many pixels.
+fn bitmap(file: &[u8], room: u32, out: &mut [u8]) -> usize
+    ensures { λ r. ⌜ r ≤ length (now (out .entry)) ⌝ }
+{
+    let mut words = [0u32; 131072];
+    lend(file, room, &mut words, out)
+}
+
 pub(crate) fn bad(out: &mut [u8]) -> usize
     ensures { λ r. ⌜ r ≤ length (now (out .entry)) ⌝ }
 {
@@ -133,7 +200,7 @@ pub(crate) fn run(v: Canvas, bytes: &mut [u8], c: Call, image: &[u8], out: &mut 
             from: _,
             clip: _,
         } => bad(out),
-        // Until these calls and the reader of such files are here.
+        // Until canvas has these calls.
         Call::Line {
             from: _,
             to: _,
@@ -143,6 +210,6 @@ pub(crate) fn run(v: Canvas, bytes: &mut [u8], c: Call, image: &[u8], out: &mut 
         Call::Pie(_) => bad(out),
         Call::RoundRect(_) => bad(out),
         Call::FillRoundRect(_) => bad(out),
-        Call::Lbmp(_) => bad(out),
+        Call::Lbmp(room) => bitmap(image, room, out),
     }
 }
