@@ -18,12 +18,28 @@
 extern "C" {
 #endif
 
+/* Plots each border point of the box once (all of it, where a side is 1); *count is how many are on the canvas and
+ * inside the clip. */
+uint32_t tuyrashka_draw_rect(uint32_t format, uint32_t width, uint32_t height, bool xor_mode,
+                             uint8_t *data, size_t data_len,
+                             int32_t x, int32_t y, uint32_t w, uint32_t h, uint32_t argb,
+                             int32_t clip_x, int32_t clip_y, uint32_t clip_w, uint32_t clip_h,
+                             uint64_t *count);
+
 /* Fills the part of the box that is on the canvas and inside the clip; *count is its number of pixels. */
 uint32_t tuyrashka_fill_rect(uint32_t format, uint32_t width, uint32_t height, bool xor_mode,
                              uint8_t *data, size_t data_len,
                              int32_t x, int32_t y, uint32_t w, uint32_t h, uint32_t argb,
                              int32_t clip_x, int32_t clip_y, uint32_t clip_w, uint32_t clip_h,
                              uint64_t *count);
+
+/* Inverts the colours of the part of the box that is on the canvas and inside the clip, whatever xor_mode is, and keeps
+ * alpha; *count is its number of pixels. */
+uint32_t tuyrashka_invert_rect(uint32_t format, uint32_t width, uint32_t height, bool xor_mode,
+                               uint8_t *data, size_t data_len,
+                               int32_t x, int32_t y, uint32_t w, uint32_t h,
+                               int32_t clip_x, int32_t clip_y, uint32_t clip_w, uint32_t clip_h,
+                               uint64_t *count);
 
 /* Plots one point; *count is 1 if it is on the canvas and inside the clip, else 0. */
 uint32_t tuyrashka_put_pixel(uint32_t format, uint32_t width, uint32_t height, bool xor_mode,
