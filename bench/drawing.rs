@@ -5,7 +5,7 @@
 //!
 //! Each time is the best of many samples. Before a row is timed both sides must leave the same bytes.
 //!
-//! `fills rust|ours FORMAT XOR K` makes K fills on one side and prints nothing, for instructions to be counted.
+//! `passes CALL rust|ours FORMAT XOR K` makes a call K times on one side and prints nothing, for instructions to be counted.
 
 extern crate alloc;
 
@@ -17,12 +17,13 @@ use std::hint::black_box;
 use std::time::{Duration, Instant};
 
 use canvas::{
-    AbgrPixel, ArgbPixel, Canvas, Clip, Color, ImageBufferCanvas, PixelType, Rgb8Pixel, Rgb332Pixel, Rgb565Pixel, VecImageBuffer,
+    AbgrPixel, ArgbPixel, Canvas, Clip, Color, Image, ImageBufferCanvas, PixelType, Rgb8Pixel, Rgb332Pixel, Rgb565Pixel,
+    VecImageBuffer,
 };
 
 const WIDTH: u32 = 240;
 const HEIGHT: u32 = 320;
-const PIXELS: f64 = (WIDTH * HEIGHT) as f64;
+const PIXELS: u64 = (WIDTH * HEIGHT) as u64;
 const COLOR: Color = Color { a: 255, r: 200, g: 100, b: 50 };
 const WHOLE: Clip = Clip { x: 0, y: 0, width: WIDTH, height: HEIGHT };
 const INNER: Clip = Clip { x: 10, y: 10, width: WIDTH - 20, height: HEIGHT - 20 };
@@ -45,6 +46,84 @@ unsafe extern "C" {
         w: u32,
         h: u32,
         argb: u32,
+        clip_x: i32,
+        clip_y: i32,
+        clip_w: u32,
+        clip_h: u32,
+        count: *mut u64,
+    ) -> u32;
+    fn tuyrashka_draw_rect(
+        format: u32,
+        width: u32,
+        height: u32,
+        xor: bool,
+        data: *mut u8,
+        length: usize,
+        x: i32,
+        y: i32,
+        w: u32,
+        h: u32,
+        argb: u32,
+        clip_x: i32,
+        clip_y: i32,
+        clip_w: u32,
+        clip_h: u32,
+        count: *mut u64,
+    ) -> u32;
+    fn tuyrashka_invert_rect(
+        format: u32,
+        width: u32,
+        height: u32,
+        xor: bool,
+        data: *mut u8,
+        length: usize,
+        x: i32,
+        y: i32,
+        w: u32,
+        h: u32,
+        clip_x: i32,
+        clip_y: i32,
+        clip_w: u32,
+        clip_h: u32,
+        count: *mut u64,
+    ) -> u32;
+    fn tuyrashka_copy_area(
+        format: u32,
+        width: u32,
+        height: u32,
+        xor: bool,
+        data: *mut u8,
+        length: usize,
+        dx: i32,
+        dy: i32,
+        sx: i32,
+        sy: i32,
+        w: u32,
+        h: u32,
+        clip_x: i32,
+        clip_y: i32,
+        clip_w: u32,
+        clip_h: u32,
+        count: *mut u64,
+    ) -> u32;
+    fn tuyrashka_draw(
+        format: u32,
+        width: u32,
+        height: u32,
+        xor: bool,
+        data: *mut u8,
+        length: usize,
+        dx: i32,
+        dy: i32,
+        w: u32,
+        h: u32,
+        source_format: u32,
+        source_width: u32,
+        source_height: u32,
+        source_data: *const u8,
+        source_length: usize,
+        sx: i32,
+        sy: i32,
         clip_x: i32,
         clip_y: i32,
         clip_w: u32,
@@ -92,28 +171,67 @@ struct Ours {
     bytes: Vec<u8>,
 }
 
+/// A call that both sides make.
+#[derive(Clone, Copy)]
+enum Work {
+    /// The whole screen under a clip.
+    Fill(Clip),
+    /// x, y, width, height.
+    Rect(i32, i32, u32, u32),
+    Invert,
+    /// To, from, width, height.
+    Copy((i32, i32), (i32, i32), u32, u32),
+    /// A whole image over the whole screen.
+    Draw,
+}
+
 impl Ours {
-    fn fill(&mut self, clip: Clip) -> u64 {
-        let (mut count, data) = (0, &mut self.bytes);
+    fn call(&mut self, image: &Ours, work: Work) -> u64 {
+        let (mut count, data, length) = (0, self.bytes.as_mut_ptr(), self.bytes.len());
+        let (format, xor, n) = (self.format, self.xor, &mut count);
+        let Clip { x: cx, y: cy, width: cw, height: ch } = WHOLE;
         let status = unsafe {
-            tuyrashka_fill_rect(
-                self.format,
-                WIDTH,
-                HEIGHT,
-                self.xor,
-                data.as_mut_ptr(),
-                data.len(),
-                0,
-                0,
-                WIDTH,
-                HEIGHT,
-                word(COLOR),
-                clip.x,
-                clip.y,
-                clip.width,
-                clip.height,
-                &mut count,
-            )
+            match work {
+                Work::Fill(clip) => {
+                    let Clip { x: cx, y: cy, width: cw, height: ch } = clip;
+                    let argb = word(COLOR);
+                    tuyrashka_fill_rect(format, WIDTH, HEIGHT, xor, data, length, 0, 0, WIDTH, HEIGHT, argb, cx, cy, cw, ch, n)
+                }
+                Work::Rect(x, y, w, h) => {
+                    let argb = word(COLOR);
+                    tuyrashka_draw_rect(format, WIDTH, HEIGHT, xor, data, length, x, y, w, h, argb, cx, cy, cw, ch, n)
+                }
+                Work::Invert => {
+                    tuyrashka_invert_rect(format, WIDTH, HEIGHT, xor, data, length, 0, 0, WIDTH, HEIGHT, cx, cy, cw, ch, n)
+                }
+                Work::Copy((dx, dy), (sx, sy), w, h) => {
+                    tuyrashka_copy_area(format, WIDTH, HEIGHT, xor, data, length, dx, dy, sx, sy, w, h, cx, cy, cw, ch, n)
+                }
+                Work::Draw => tuyrashka_draw(
+                    format,
+                    WIDTH,
+                    HEIGHT,
+                    xor,
+                    data,
+                    length,
+                    0,
+                    0,
+                    WIDTH,
+                    HEIGHT,
+                    image.format,
+                    WIDTH,
+                    HEIGHT,
+                    image.bytes.as_ptr(),
+                    image.bytes.len(),
+                    0,
+                    0,
+                    cx,
+                    cy,
+                    cw,
+                    ch,
+                    n,
+                ),
+            }
         };
         assert_eq!(status, 0);
         count
@@ -154,8 +272,7 @@ impl Ours {
 }
 
 /// A canvas on each side with the same bytes, none of them alike by plan.
-fn pair(format: u32, xor: bool) -> (Box<dyn Canvas>, Ours) {
-    let mut s = 7u32;
+fn pair(format: u32, xor: bool, mut s: u32) -> (Box<dyn Canvas>, Ours) {
     let byte = |_| {
         s = s.wrapping_mul(1_664_525).wrapping_add(1_013_904_223);
         (s >> 24) as u8
@@ -177,8 +294,15 @@ fn canvas_of<P: PixelType + 'static>(bytes: &[u8]) -> Box<dyn Canvas> {
     Box::new(ImageBufferCanvas::new(VecImageBuffer::<P>::from_raw(WIDTH, HEIGHT, words)))
 }
 
-fn rust_fill(canvas: &mut dyn Canvas, clip: Clip) {
-    black_box(canvas).fill_rect(0, 0, WIDTH, HEIGHT, COLOR, black_box(clip));
+fn rust_call(canvas: &mut dyn Canvas, image: &dyn Image, work: Work) {
+    let canvas = black_box(canvas);
+    match work {
+        Work::Fill(clip) => canvas.fill_rect(0, 0, WIDTH, HEIGHT, COLOR, clip),
+        Work::Rect(x, y, w, h) => canvas.draw_rect(x, y, w, h, COLOR, WHOLE),
+        Work::Invert => canvas.invert_rect(0, 0, WIDTH, HEIGHT, WHOLE),
+        Work::Copy((dx, dy), (sx, sy), w, h) => canvas.copy_area(dx, dy, sx, sy, w, h, WHOLE),
+        Work::Draw => canvas.draw(0, 0, WIDTH, HEIGHT, image, 0, 0, WHOLE),
+    }
 }
 
 /// Each point of the screen, in rows.
@@ -209,27 +333,31 @@ fn race(mut rust: impl FnMut(), mut ours: impl FnMut()) -> [f64; 2] {
     best
 }
 
-fn row(what: &str, format: u32, xor: bool, clip: &str, [rust, ours]: [f64; 2]) {
+/// Times of a pass that lands so many pixels.
+fn row(what: &str, format: u32, xor: bool, note: &str, landed: u64, [rust, ours]: [f64; 2]) {
     let (xor, format) = (if xor { "on" } else { "off" }, NAMES[format as usize]);
-    let (rust, ours) = (rust / PIXELS, ours / PIXELS);
-    println!("| {what} | {format} | {xor} | {clip} | {rust:.3} | {ours:.3} | {:.3} |", ours / rust);
+    let (rust, ours) = (rust / landed as f64, ours / landed as f64);
+    println!("| {what} | {format} | {xor} | {note} | {rust:.3} | {ours:.3} | {:.3} |", ours / rust);
 }
 
 fn same(canvas: &dyn Canvas, ours: &Ours) {
     assert!(*canvas.image().raw() == ours.bytes, "the two sides differ in format {}, XOR {}", ours.format, ours.xor);
 }
 
-fn fill(format: u32, xor: bool, name: &str, clip: Clip) {
-    let (mut canvas, mut ours) = pair(format, xor);
-    rust_fill(&mut *canvas, clip);
-    assert_eq!(ours.fill(clip), clip.width as u64 * clip.height as u64);
+/// A row of a call; an image, where it has one, is of the format `source`.
+fn call(what: &str, format: u32, xor: bool, note: &str, source: u32, work: Work) {
+    let (mut canvas, mut ours) = pair(format, xor, 7);
+    let (image, lent) = pair(source, false, 8);
+    rust_call(&mut *canvas, image.image(), work);
+    let landed = ours.call(&lent, work);
     same(&*canvas, &ours);
-    let times = race(|| rust_fill(&mut *canvas, clip), || _ = black_box(ours.fill(black_box(clip))));
-    row("fill_rect", format, xor, name, times);
+    let times =
+        race(|| rust_call(&mut *canvas, image.image(), black_box(work)), || _ = black_box(ours.call(&lent, black_box(work))));
+    row(what, format, xor, note, landed, times);
 }
 
 fn put(format: u32, xor: bool) {
-    let (mut canvas, mut ours) = pair(format, xor);
+    let (mut canvas, mut ours) = pair(format, xor, 7);
     let rust_pass = |canvas: &mut dyn Canvas| {
         let canvas = black_box(canvas);
         every_point(|x, y| canvas.put_pixel(x, y, COLOR, WHOLE));
@@ -238,41 +366,73 @@ fn put(format: u32, xor: bool) {
     every_point(|x, y| assert_eq!(ours.put(x, y), 1));
     same(&*canvas, &ours);
     let times = race(|| rust_pass(&mut *canvas), || every_point(|x, y| _ = black_box(ours.put(x, y))));
-    row("put_pixel", format, xor, "whole", times);
+    row("put_pixel", format, xor, "whole", PIXELS, times);
 }
 
 fn get(format: u32) {
-    let (canvas, ours) = pair(format, false);
+    let (canvas, ours) = pair(format, false, 7);
     every_point(|x, y| assert_eq!(canvas.get_pixel(x, y).map(word), ours.get(x, y)));
     let rust_pass = || {
         let canvas = black_box(&*canvas);
         every_point(|x, y| _ = black_box(canvas.get_pixel(x, y)));
     };
     let times = race(rust_pass, || every_point(|x, y| _ = black_box(ours.get(x, y))));
-    row("get_pixel", format, false, "", times);
+    row("get_pixel", format, false, "", PIXELS, times);
 }
 
-fn fills(side: &str, format: u32, xor: bool, passes: u32) {
-    let (mut canvas, mut ours) = pair(format, xor);
-    for _ in 0..passes {
+/// Moves of the whole screen by a pixel, and of its left half to the right.
+const COPIES: [(&str, Work); 5] = [
+    ("up", Work::Copy((0, 0), (0, 1), WIDTH, HEIGHT - 1)),
+    ("down", Work::Copy((0, 1), (0, 0), WIDTH, HEIGHT - 1)),
+    ("left", Work::Copy((0, 0), (1, 0), WIDTH - 1, HEIGHT)),
+    ("right", Work::Copy((1, 0), (0, 0), WIDTH - 1, HEIGHT)),
+    ("apart", Work::Copy((WIDTH as i32 / 2, 0), (0, 0), WIDTH / 2, HEIGHT)),
+];
+
+fn passes(name: &str, side: &str, format: u32, xor: bool, k: u32) {
+    let (mut canvas, mut ours) = pair(format, xor, 7);
+    let (image, lent) = pair(3, false, 8);
+    let copy = |note| COPIES.into_iter().find(|(name, _)| *name == note);
+    let work = match name {
+        "fill" => Work::Fill(WHOLE),
+        "rect" => Work::Rect(70, 110, 100, 100),
+        "invert" => Work::Invert,
+        "draw" => Work::Draw,
+        note => copy(note).expect("a call's name").1,
+    };
+    for _ in 0..k {
         match side {
-            "rust" => rust_fill(&mut *canvas, WHOLE),
-            _ => _ = black_box(ours.fill(black_box(WHOLE))),
+            "rust" => rust_call(&mut *canvas, image.image(), black_box(work)),
+            _ => _ = black_box(ours.call(&lent, black_box(work))),
         }
     }
 }
 
+/// Each format with XOR off and on.
+fn modes() -> impl Iterator<Item = (u32, bool)> {
+    (0..5).flat_map(|format| [(format, false), (format, true)])
+}
+
 fn main() {
     let words: Vec<String> = std::env::args().skip(1).collect();
-    if let [mode, side, format, xor, passes] = &words[..] {
-        assert_eq!(mode, "fills");
-        return fills(side, format.parse().unwrap(), xor == "1", passes.parse().unwrap());
+    if let [mode, name, side, format, xor, k] = &words[..] {
+        assert_eq!(mode, "passes");
+        return passes(name, side, format.parse().unwrap(), xor == "1", k.parse().unwrap());
     }
-    println!("| {WIDTH} by {HEIGHT} | format | XOR | clip | Rust, ns a pixel | ours, ns a pixel | ours / Rust |");
+    println!("| {WIDTH} by {HEIGHT} | format | XOR | how | Rust, ns a pixel | ours, ns a pixel | ours / Rust |");
     println!("|---|---|---|---|---|---|---|");
-    for (name, clip) in [("whole", WHOLE), ("border cut", INNER)] {
-        (0..5).for_each(|format| [false, true].into_iter().for_each(|xor| fill(format, xor, name, clip)));
+    for (note, clip) in [("whole", WHOLE), ("border cut", INNER)] {
+        modes().for_each(|(format, xor)| call("fill_rect", format, xor, note, 3, Work::Fill(clip)));
     }
-    (0..5).for_each(|format| [false, true].into_iter().for_each(|xor| put(format, xor)));
+    for (note, work) in [("100 by 100", Work::Rect(70, 110, 100, 100)), ("whole", Work::Rect(0, 0, WIDTH, HEIGHT))] {
+        modes().for_each(|(format, xor)| call("draw_rect", format, xor, note, 3, work));
+    }
+    (0..5).for_each(|format| call("invert_rect", format, false, "whole", 3, Work::Invert));
+    for (note, work) in COPIES {
+        (0..5).for_each(|format| call("copy_area", format, false, note, 3, work));
+    }
+    modes().for_each(|(format, xor)| call("draw", format, xor, "ARGB over it", 3, Work::Draw));
+    modes().for_each(|(format, xor)| call("draw", format, xor, "over its own", format, Work::Draw));
+    modes().for_each(|(format, xor)| put(format, xor));
     (0..5).for_each(get);
 }

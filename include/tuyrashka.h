@@ -18,12 +18,28 @@
 extern "C" {
 #endif
 
+/* Plots each border point of the box once (all of it, where a side is 1); *count is how many are on the canvas and
+ * inside the clip. */
+uint32_t tuyrashka_draw_rect(uint32_t format, uint32_t width, uint32_t height, bool xor_mode,
+                             uint8_t *data, size_t data_len,
+                             int32_t x, int32_t y, uint32_t w, uint32_t h, uint32_t argb,
+                             int32_t clip_x, int32_t clip_y, uint32_t clip_w, uint32_t clip_h,
+                             uint64_t *count);
+
 /* Fills the part of the box that is on the canvas and inside the clip; *count is its number of pixels. */
 uint32_t tuyrashka_fill_rect(uint32_t format, uint32_t width, uint32_t height, bool xor_mode,
                              uint8_t *data, size_t data_len,
                              int32_t x, int32_t y, uint32_t w, uint32_t h, uint32_t argb,
                              int32_t clip_x, int32_t clip_y, uint32_t clip_w, uint32_t clip_h,
                              uint64_t *count);
+
+/* Inverts the colours of the part of the box that is on the canvas and inside the clip, whatever xor_mode is, and keeps
+ * alpha; *count is its number of pixels. */
+uint32_t tuyrashka_invert_rect(uint32_t format, uint32_t width, uint32_t height, bool xor_mode,
+                               uint8_t *data, size_t data_len,
+                               int32_t x, int32_t y, uint32_t w, uint32_t h,
+                               int32_t clip_x, int32_t clip_y, uint32_t clip_w, uint32_t clip_h,
+                               uint64_t *count);
 
 /* Plots one point; *count is 1 if it is on the canvas and inside the clip, else 0. */
 uint32_t tuyrashka_put_pixel(uint32_t format, uint32_t width, uint32_t height, bool xor_mode,
@@ -36,6 +52,14 @@ uint32_t tuyrashka_put_pixel(uint32_t format, uint32_t width, uint32_t height, b
 uint32_t tuyrashka_get_pixel(uint32_t format, uint32_t width, uint32_t height, bool xor_mode,
                              const uint8_t *data, size_t data_len,
                              int32_t x, int32_t y, uint32_t *found, uint32_t *argb);
+
+/* Decodes an LBMP file to ARGB words, in rows: width times height of them, written to out; *clear is the number of
+ * transparent pixels. Returns 0, or 10 INVALID, 11 TYPE (not 2, 8 or 16), 12 ROOM (out_len, a number of words, is below
+ * that of the pixels); out then stays as it was, and *width, *height and *clear are 0. Words past the last pixel are
+ * not written. */
+uint32_t tuyrashka_decode_lbmp(const uint8_t *file, size_t file_len,
+                               uint32_t *out, size_t out_len,
+                               uint32_t *width, uint32_t *height, uint64_t *clear);
 
 #ifdef __cplusplus
 }

@@ -1,5 +1,9 @@
 //! The fixed list of cases: the edges first and in order, then the colours, then some random ones.
 
+mod boxes;
+mod files;
+mod images;
+
 use std::collections::HashSet;
 
 use crate::case::pixel_size;
@@ -18,7 +22,12 @@ pub fn fixed(ops: &[&'static str]) -> Vec<String> {
         match op {
             "put" => put(&mut list),
             "get" => get(&mut list),
+            "rect" => boxes::rect(&mut list),
             "fill" => fill(&mut list),
+            "copy" => images::copy(&mut list),
+            "invert" => boxes::invert(&mut list),
+            "draw" => images::draw(&mut list),
+            "lbmp" => files::lbmp(&mut list),
             _ => continue,
         }
         refused(op, &mut list);
@@ -168,14 +177,22 @@ fn fill(list: &mut Vec<String>) {
     }
 }
 
-/// Each refusal on either side of its edge, and which of several is given.
+/// Each refusal, and which of several is given.
 fn refused(op: &str, list: &mut Vec<String>) {
     let args = match op {
         "put" => format!("0 0 {COLOR} 0 0 9 9"),
         "get" => "0 0".into(),
-        "fill" => format!("0 0 2 2 {COLOR} 0 0 9 9"),
+        "rect" | "fill" => format!("0 0 2 2 {COLOR} 0 0 9 9"),
+        "copy" => "1 0 0 0 2 2 0 0 9 9".into(),
+        "invert" => "0 0 2 2 0 0 9 9".into(),
+        "draw" => "0 0 2 2 3 2 2 8 0 0 0 0 9 9".into(),
         _ => return,
     };
+    list.extend(heads().iter().map(|head| format!("{head} {op} {args}")));
+}
+
+/// Canvases on either side of each refusal's edge, and with several faults.
+fn heads() -> Vec<String> {
     let mut heads: Vec<String> = [
         // FORMAT, with and without a wrong side and a wrong length
         "5 1 1 0 x00",
@@ -209,7 +226,7 @@ fn refused(op: &str, list: &mut Vec<String>) {
         }
         heads.push(format!("{format} 0 3 0 x00"));
     }
-    list.extend(heads.iter().map(|head| format!("{head} {op} {args}")));
+    heads
 }
 
 /// Lines that cannot be read, beside some that just can.

@@ -234,17 +234,36 @@ impl Chance {
         }
     }
 
+    /// Half of the copies go a step or two, so that most of these overlap; half of those are wholly on the canvas.
     fn copy(&mut self, w: i64, h: i64) -> String {
-        let (dx, dy, sx, sy) = (self.place(w, 4), self.place(h, 4), self.place(w, 4), self.place(h, 4));
-        let (bw, bh) = (self.length(dx.min(sx), w, 4), self.length(dy.min(sy), h, 4));
+        let (near, inside) = (self.percent(50), self.percent(50));
+        let mut axis = |side: i64| {
+            let last = side.min(32_768) - 1;
+            let from = if near { self.from(0, last.max(0)) } else { self.place(side, 4) };
+            let to = if near { (from + self.from(-2, 2)).clamp(0, last.max(0)) } else { self.place(side, 4) };
+            if near && inside {
+                return (to, from, self.from(1, (last + 1 - from.max(to)).max(1)));
+            }
+            let start = if self.percent(50) { from.min(to) } else { from.max(to) };
+            (to, from, self.length(start, side, 4))
+        };
+        let ((dx, sx, bw), (dy, sy, bh)) = (axis(w), axis(h));
         format!("{dx} {dy} {sx} {sy} {bw} {bh} {}", self.clip(w, h))
     }
 
+    /// Half of the images are drawn to a point of the canvas, from their corner or a step beside it.
     fn draw(&mut self, w: i64, h: i64) -> String {
-        let area = self.area(w, h, 4);
+        let near = self.percent(50);
+        let area = if near {
+            let (x, y) = (self.from(0, (w.min(32_768) - 1).max(0)), self.from(0, (h.min(32_768) - 1).max(0)));
+            format!("{x} {y} {} {}", self.from(1, 12), self.from(1, 12))
+        } else {
+            self.area(w, h, 4)
+        };
         let (sf, (sw, sh)) = (self.format(), self.sides());
         let seed = self.seed(sf, sw, sh);
-        format!("{area} {sf} {sw} {sh} {seed} {} {}", self.point(sw, sh, 4), self.clip(w, h))
+        let from = if near { format!("{} {}", self.from(-1, 1), self.from(-1, 1)) } else { self.point(sw, sh, 4) };
+        format!("{area} {sf} {sw} {sh} {seed} {from} {}", self.clip(w, h))
     }
 
     /// A whole file, and now and then a header field or the length made wrong.

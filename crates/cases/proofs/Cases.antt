@@ -1,32 +1,27 @@
 -- The bytes that a canvas has fit the room exactly where its area is at most the room divided by a pixel's size.
-use mathlib.Core.Bool.{Bool, true, false, cond}
+use mathlib.Core.Bool.{true, false}
 use mathlib.Core.List.{List, [], _∷_, _++_}
 use mathlib.Core.Path.{_≡_, refl, sym, _∙_, ap}
 use Prim.Native.Nat.{ℕ, zero, suc, _+_, _*_, _/_, _-_, _^_, _<_, _≤_}
-use native.Mathlib.Nat.{div-lt-iff-lt-mul, le-div-iff-mul-le, mul-le-mul}
+use native.Mathlib.Decide.{decLe}
+use native.Mathlib.Nat.{div-lt-iff-lt-mul, le-div-iff-mul-le, mul-le-mul, lt-of-not-le}
 use native.Mathlib.Omega.{arith}
-use lib.Dec.{eqb, ltb}
-use lib.ListN.{length, drop, length-append}
+use lib.Dec.{ltb}
+use lib.ListN.{length, take, drop, length-append}
+use lib.Seq.{length-take-le}
 use borrow.Author.Tests.{le-leb, lt-leb, le-ltb}
-use types.Run.{OneOf, miss}
-use denote.Enum.Declared.{tagOf}
-use Rattle.cases.proofs.call.Call.{the-type}
 use Rattle.canvas.specs.declared.Canvas.{Canvas}
 use Rattle.words.specs.Format.{formatOf, bytesPerPixel}
-use Rattle.cases.specs.Line.{Value, value, none, wordsOf}
-use Rattle.cases.specs.Place.{leftAt, read, sown, readSeed, pairs, readHead}
-use Rattle.cases.specs.Number.{numberOf}
-use Rattle.cases.specs.Call.{callOf}
+use Rattle.cases.specs.Line.{Left, words, lost, Value, value, none, got, wordsOf}
+use Rattle.cases.specs.Place.{leftAt, sown, readSeed, pairs, readScreen, readRow}
+use Rattle.cases.specs.Call.{Asked, rowOf}
 use Rattle.cases.specs.Seed.{Sown, seedOf, firstBytes}
-use Rattle.cases.specs.Case.{headOf, exactly, lent, fitting, capped, laid, isBad, called, caseOf}
-use Rattle.cases.specs.declared.call.Call.{Call}
-use Rattle.cases.specs.declared.call.Call.the-variants.{Put, Get, Fill}
-use Rattle.cases.specs.declared.case.Case.{Case}
-use Rattle.cases.specs.declared.case.Case.the-variants.{Of}
-use Rattle.cases.specs.declared.case.Head.{Head}
-use Rattle.cases.specs.declared.number.Number.{Number}
+use Rattle.cases.specs.Case.{headOf, exactly, lent, fitting, capped, whole, Outcome, laid, called, caseOf}
+use Rattle.cases.specs.declared.args.Screened.{Screened}
+use Rattle.cases.specs.declared.call.Row.{Row}
+use Rattle.cases.specs.declared.case.Case.the-variants.{Bad, Of}
 use Rattle.cases.specs.declared.seed.Seeded.{Seeded}
-use Rattle.cases.proofs.Reading.{inside}
+use Rattle.cases.proofs.Reading.{inside, finished, gone}
 
 pub four : (f : ℕ) → (f ≡ 0 → ⊥) → (f ≡ 1 → ⊥) → f < 5 → 4 ≡ bytesPerPixel (formatOf f)
 unfolding formatOf bytesPerPixel
@@ -101,51 +96,92 @@ unfolding pairs
 length-pairs line from zero = refl
 length-pairs line from (suc n) = rw (length-append, length-pairs line from n) (omega arith)
 
-pub head-is : (line : List ℕ) (f w h x : Number) → read line f ≡ numberOf 4294967295 (leftAt line 0)
-    → read line w ≡ numberOf 4294967295 (leftAt line (f .next)) → read line h ≡ numberOf 4294967295 (leftAt line (w .next))
-    → read line x ≡ numberOf 1 (leftAt line (h .next))
-    → readHead line
-    (record { canvas = record { format = f .value; width = w .value; height = h .value; xor = eqb (x .value) 1 }; next = x .next })
-    ≡ headOf (wordsOf line)
-unfolding headOf
-head-is line f w h x e₁ e₂ e₃ e₄ = rw (← inside line 0 (omega arith), ← e₁, ← e₂, ← e₃, ← e₄)
+-- A row is whole where its last word is the line's last.
+is-whole : {A : Type 0} (line : List ℕ) (i : ℕ) (a b : A) → i ≡ length line + 1 → whole (leftAt line i) a b ≡ a
+unfolding whole
+is-whole line i a b e = rw (finished line i e)
 
--- The head, the seed and the call one after the other are the case.
-pub case-is : (line bytes : List ℕ) (h : Head) (s : Seeded) (c : Call) → readHead line h ≡ headOf (wordsOf line)
-    → readSeed line s ≡ seedOf (leftAt line (h .next)) → c ≡ callOf (leftAt line (s .next))
-    → called (h .canvas) (sown line (s .seed)) c bytes ≡ caseOf line bytes
-unfolding caseOf
-case-is line bytes h s c e f g = rw (← e, ← f, ← g)
+not-whole-by : {A : Type 0} (line : List ℕ) (i : ℕ) (a b : A) → (i ≡ length line + 1 → ⊥) → Dec (i ≤ length line) → whole (leftAt line i) a b ≡ b
+unfolding whole wordsOf
+not-whole-by line i a b n (yes l) = rw (inside line i l)
+not-whole-by line i a b n (no m) = let l : length line < i = lt-of-not-le m in rw (gone line i (omega (arith, n)))
 
-module _ (v : Canvas) (s : Sown) (c : Call) (bytes : List ℕ) where
-  pub bad-call : isBad c ≡ true → (Case.Bad, bytes) ≡ called v s c bytes
+not-whole : {A : Type 0} (line : List ℕ) (i : ℕ) (a b : A) → (i ≡ length line + 1 → ⊥) → whole (leftAt line i) a b ≡ b
+not-whole line i a b n = not-whole-by line i a b n (decLe i (length line))
+
+same-either : {A : Type 0} (l : Left) (a : A) → whole l a a ≡ a
+unfolding whole
+same-either (words []) a = refl
+same-either (words (w ∷ ws)) a = refl
+same-either lost a = refl
+
+module _ (line : List ℕ) (v : Canvas) (s : Sown) (a : Asked) (i : ℕ) (bytes image : List ℕ) where
+  abbrev bad : Outcome
+  bad = (Bad, bytes, image)
+
+  bad-row : (i ≡ length line + 1 → ⊥) → bad ≡ called v s (got a (leftAt line i)) bytes image
   unfolding called
-  bad-call e = rw e
+  bad-row n = sym (not-whole line i _ bad n)
 
-  no-room : Bool → Value ℕ → Case × List ℕ
-  no-room b n = cond b (Case.Bad, bytes) (laid v c s n bytes)
+  without : Value ℕ → Value ℕ → Outcome
+  without n m = whole (leftAt line i) (laid v s a n m bytes image) bad
 
-  always : (b : Bool) → (Case.Bad, bytes) ≡ no-room b none
-  unfolding laid no-room
-  always true = refl
-  always false = refl
+  first-none : (m : Value ℕ) → bad ≡ without none m
+  unfolding laid without
+  first-none m = sym (same-either (leftAt line i) bad)
 
-  pub bad-room : (n : ℕ) → fitting (length bytes) n ≡ capped (length bytes) (lent v s) → length bytes < n → (Case.Bad, bytes) ≡ called v s c bytes
-  unfolding called no-room
-  bad-room n e h = always (isBad c) ∙ ap (no-room (isBad c)) (sym (over (length bytes) n h) ∙ e)
+  second-none : (n : Value ℕ) → bad ≡ without n none
+  unfolding laid without
+  second-none (value n) = sym (same-either (leftAt line i) bad)
+  second-none none = sym (same-either (leftAt line i) bad)
 
-  pub good : (n : ℕ) → fitting (length bytes) n ≡ capped (length bytes) (lent v s) → n ≤ length bytes → isBad c ≡ false
-      → (Of v n c, firstBytes s n ++ drop n bytes) ≡ called v s c bytes
+  bad-room : (n : ℕ) → fitting (length bytes) n ≡ capped (length bytes) (lent v s) → length bytes < n
+      → bad ≡ called v s (got a (leftAt line i)) bytes image
+  unfolding called without
+  bad-room n e h =
+      let m = capped (length image) (lent (a .source) (a .seed)) in
+      first-none m ∙ ap (λ (x : Value ℕ). without x m) (sym (over (length bytes) n h) ∙ e)
+
+  bad-image : (m : ℕ) → fitting (length image) m ≡ capped (length image) (lent (a .source) (a .seed)) → length image < m
+      → bad ≡ called v s (got a (leftAt line i)) bytes image
+  unfolding called without
+  bad-image m e h = second-none _ ∙ ap (without _) (sym (over (length image) m h) ∙ e)
+
+  good : (n m : ℕ) {t u : List ℕ} → fitting (length bytes) n ≡ capped (length bytes) (lent v s) → n ≤ length bytes
+      → fitting (length image) m ≡ capped (length image) (lent (a .source) (a .seed)) → m ≤ length image → i ≡ length line + 1
+      → t ≡ firstBytes s (length (take n bytes)) → u ≡ firstBytes (a .seed) (length (take m image))
+      → (Of v n (a .call) m, t ++ drop n bytes, u ++ drop m image) ≡ called v s (got a (leftAt line i)) bytes image
   unfolding called laid fitting
-  good n e h b = rw (b, ← e, le-leb n (length bytes) h)
+  good n m e h f k w p q =
+      rw (p, q, length-take-le n bytes h, length-take-le m image k)
+      (sym (is-whole line i _ bad w ∙ rw (← e, ← f, le-leb n (length bytes) h, le-leb m (length image) k)))
 
--- A call that is some row of the table is not bad.
-abbrev pub rows : List ℕ
-rows = 1 ∷ 2 ∷ 3 ∷ []
+-- The head, the seed and the row one after the other are the case.
+module _ (line bytes image : List ℕ) (h : Screened) (s : Seeded) (r : Row) (e : readScreen line h ≡ headOf (wordsOf line))
+    (f : readSeed line s ≡ seedOf (leftAt line (h .next))) (g : readRow line r ≡ rowOf (leftAt line (s .next))) where
+  abbrev seed : Sown
+  seed = sown line (s .seed)
 
-pub some-call : (c : Call) → OneOf rows (tagOf the-type c) → isBad c ≡ false
-unfolding isBad
-some-call Call.Bad k = absurd (miss rows 0 tt k)
-some-call (Put x y c k) t = refl
-some-call (Get x y) t = refl
-some-call (Fill x y w h c k) t = refl
+  abbrev asked : Asked
+  asked = readRow line r .value
+
+  case-is : called (h .canvas) seed (readRow line r) bytes image ≡ caseOf line bytes image
+  unfolding caseOf
+  case-is = rw (← e, ← f, ← g)
+
+  pub no-row-ends : (r .next ≡ length line + 1 → ⊥) → (Bad, bytes, image) ≡ caseOf line bytes image
+  no-row-ends n = bad-row line (h .canvas) seed asked (r .next) bytes image n ∙ case-is
+
+  pub no-room : (n : ℕ) → fitting (length bytes) n ≡ capped (length bytes) (lent (h .canvas) seed) → length bytes < n
+      → (Bad, bytes, image) ≡ caseOf line bytes image
+  no-room n p l = bad-room line (h .canvas) seed asked (r .next) bytes image n p l ∙ case-is
+
+  pub no-image-room : (m : ℕ) → fitting (length image) m ≡ capped (length image) (lent (r .source) (asked .seed)) → length image < m
+      → (Bad, bytes, image) ≡ caseOf line bytes image
+  no-image-room m p l = bad-image line (h .canvas) seed asked (r .next) bytes image m p l ∙ case-is
+
+  pub laid-out : (n m : ℕ) {t u : List ℕ} → fitting (length bytes) n ≡ capped (length bytes) (lent (h .canvas) seed) → n ≤ length bytes
+      → fitting (length image) m ≡ capped (length image) (lent (r .source) (asked .seed)) → m ≤ length image → r .next ≡ length line + 1
+      → t ≡ firstBytes seed (length (take n bytes)) → u ≡ firstBytes (asked .seed) (length (take m image))
+      → (Of (h .canvas) n (r .call) m, t ++ drop n bytes, u ++ drop m image) ≡ caseOf line bytes image
+  laid-out n m p k q l w x y = good line (h .canvas) seed asked (r .next) bytes image n m p k q l w x y ∙ case-is

@@ -1,7 +1,7 @@
 -- The hash of the bytes from here on, begun with the hash so far, is the hash of all.
-use mathlib.Core.List.{List}
-use mathlib.Core.Path.{_≡_, sym, _∙_, ap}
-use Prim.Native.Nat.{ℕ, _+_, _*_, _/_, _%_, _<_, _≤_}
+use mathlib.Core.List.{List, [], _∷_, _++_}
+use mathlib.Core.Path.{_≡_, refl, sym, _∙_, ap}
+use Prim.Native.Nat.{ℕ, suc, _+_, _*_, _/_, _%_, _<_, _≤_}
 use native.Mathlib.Nat.{
   mul-add-mod-self-right,
   mod-eq-of-lt,
@@ -14,7 +14,7 @@ use native.Mathlib.Omega.{arith}
 use lib.Bits.{bitXor}
 use lib.ListN.{length, drop, getD, drop-of-length-le}
 use lib.Seq.{drop-cons}
-use Rattle.cases.specs.Hash.{stirred, hashFrom}
+use Rattle.cases.specs.Hash.{stirred, hashFrom, bytesOf, allBytes}
 
 -- The halves of a product, at any base m with the factor 256m + 435.
 halves : (m high low l₁ l₀ x₁ x₀ : ℕ) → low * 435 ≡ l₁ * m + l₀ → l₁ + high * 435 + low * 256 ≡ x₁ * m + x₀
@@ -47,3 +47,23 @@ taken-in h bytes i l = rw (add-one i, drop-cons bytes i 0 l)
 pub all-in : (h : ℕ) (bytes : List ℕ) (i : ℕ) → length bytes ≤ i → h ≡ hashFrom h (drop i bytes)
 unfolding hashFrom
 all-in h bytes i l = rw (drop-of-length-le bytes l)
+
+hash-append : (h : ℕ) (s t : List ℕ) → hashFrom h (s ++ t) ≡ hashFrom (hashFrom h s) t
+unfolding hashFrom
+hash-append h [] t = refl
+hash-append h (b ∷ s) t = hash-append (stirred (bitXor h b)) s t
+
+-- The same of words.
+pub word-in : (h : ℕ) (ws : List ℕ) (i : ℕ) → i < length ws
+    → hashFrom h (allBytes (drop i ws)) ≡ hashFrom (hashFrom h (bytesOf (getD ws i 0))) (allBytes (drop (i + 1) ws))
+unfolding allBytes
+word-in h ws i l = rw (add-one i, drop-cons ws i 0 l) (hash-append h (bytesOf (getD ws i 0)) (allBytes (drop (suc i) ws)))
+
+pub words-in : (h : ℕ) (ws : List ℕ) (i : ℕ) → length ws ≤ i → h ≡ hashFrom h (allBytes (drop i ws))
+unfolding hashFrom allBytes
+words-in h ws i l = rw (drop-of-length-le ws l)
+
+pub four-in : (h n a b c d : ℕ) → a ≡ stirred (bitXor h (n % 256)) → b ≡ stirred (bitXor a (n / 256 % 256)) → c ≡ stirred (bitXor b (n / 65536 % 256))
+    → d ≡ stirred (bitXor c (n / 16777216 % 256)) → d ≡ hashFrom h (bytesOf n)
+unfolding hashFrom bytesOf
+four-in h n a b c d e₁ e₂ e₃ e₄ = rw (e₄, e₃, e₂, e₁)

@@ -8,11 +8,11 @@ use lib.ListN.{length, getD}
 use borrow.Author.Tests.{lt-ltb, le-ltb, eq-eqb, ne-eqb, eqb-false}
 use Rattle.cases.specs.Line.{Left, lost, Value, value, none, Got, got, after, next, firstOf}
 use Rattle.cases.specs.Place.{leftAt, pairs, Within, Fills}
-use Rattle.cases.specs.Seed.{Sown, counted, given, nibble, byte, before, hexes, givenBy, givenHex, exact, zeros, z, countedBy, seedOf}
+use Rattle.cases.specs.Seed.{minus, filled, fileOf, Sown, counted, given, nibble, byte, before, hexes, givenBy, givenHex, exact, zeros, z, countedBy, seedOf}
 use Rattle.cases.specs.Number.{numberOf, named}
 use Rattle.cases.specs.declared.seed.Seed.{Seed}
 use Rattle.cases.specs.declared.seed.Seed.the-variants.{Bytes}
-use Rattle.cases.proofs.Reading.{letter, alike, refused, barred, short, first-found, first-missed}
+use Rattle.cases.proofs.Reading.{letter, alike, refused, barred, short, empty, first-found, first-missed}
 
 -- What is still to be read after the first bytes.
 abbrev pub rest : List ℕ → List ℕ → Value Sown
@@ -143,3 +143,25 @@ module _ (line : List ℕ) (l : Left) where
   is-counted i j n k s e h f m g =
       ap countedBy g ∙ sym (first-missed s line j (countedBy (numberOf 4294967295 l)) m) ∙
       ap (λ (g : Got Sown). firstOf g (countedBy (numberOf 4294967295 l))) f ∙ no-zeros i e h
+
+-- A minus, or hex.
+module _ (line : List ℕ) (l : Left) where
+  pub no-file : (i : ℕ) → leftAt line i ≡ named minus l → i < length line + 2 → got (given []) (leftAt line i) ≡ fileOf l
+  unfolding fileOf
+  no-file i e h = sym (first-found (given []) line i _ h) ∙ ap (λ (k : Left). firstOf (got (given []) k) (next (counted 0) filled l)) e
+
+  pub a-file : (i : ℕ) → leftAt line i ≡ named minus l → length line + 2 ≤ i → next (counted 0) filled l ≡ fileOf l
+  unfolding fileOf
+  a-file i e h = sym (first-missed (given []) line i (next (counted 0) filled l) h) ∙ ap (λ (k : Left). firstOf (got (given []) k) (next (counted 0) filled l)) e
+
+pub no-letter : (line : List ℕ) (i : ℕ) → length line ≤ i → next (counted 0) filled (leftAt line i) ≡ got (counted 0) lost
+unfolding filled
+no-letter line i h = short (counted 0) filled line i refl h
+
+pub no-word : (line : List ℕ) (i : ℕ) → i < length line → getD line i 0 ≡ 32 → next (counted 0) filled (leftAt line i) ≡ got (counted 0) lost
+unfolding filled
+no-word line i h e = empty (counted 0) filled line i refl h e
+
+pub some-word : (line : List ℕ) (i : ℕ) → i < length line → (getD line i 0 ≡ 32 → ⊥) → next (counted 0) givenHex (leftAt line i) ≡ next (counted 0) filled (leftAt line i)
+unfolding filled
+some-word line i h s = letter (counted 0) givenHex line i h s ∙ sym (letter (counted 0) filled line i h s)

@@ -10,12 +10,12 @@ use native.Mathlib.Numerals.{add-one, one-add}
 use lib.Dec.{ltb, lit≤}
 use mathlib.Core.Bool.{Bool, true, false, cond}
 use borrow.Author.Tests.{lt-ltb, le-ltb, ltb-false}
-use Rattle.cases.specs.Answer.{glyph, spelled, places, decimal, hex, nameText, statusText, foundText, hashText, placed, lineOf, answered}
+use Rattle.cases.specs.Answer.{glyph, spelled, places, decimal, hex, nameText, statusText, imageText, foundText, hashText, placed, lineOf, answered}
 use Rattle.cases.specs.Place.{Wrote}
 use Rattle.cases.specs.declared.answer.Name.{Name}
-use Rattle.cases.specs.declared.answer.Name.the-variants.{Put, Get, Fill}
+use Rattle.cases.specs.declared.answer.Name.the-variants.{Put, Get, Rect, Fill, Invert, Copy, Draw, Line, Arc, Pie, RoundRect, FillRoundRect, Lbmp}
 use Rattle.cases.specs.declared.answer.Found.{Found}
-use Rattle.cases.specs.declared.answer.Found.the-variants.{Count, Argb, Nothing}
+use Rattle.cases.specs.declared.answer.Found.the-variants.{Count, Argb, Nothing, Image}
 use Rattle.cases.specs.declared.answer.Answer.{Answer}
 
 pub length-placed : (d : List ℕ) (at : ℕ) (t : List ℕ) → length (placed d at t) ≡ length d
@@ -85,13 +85,13 @@ pub place-end : (k n : ℕ) → 20 ≤ k → places (20 - k) n ≡ 1
 unfolding places
 place-end k n h = let z : 20 - k ≡ 0 = omega arith in rw z
 
-pub answered-is : (a : Answer) (d d' : List ℕ) (r : ℕ) → 96 ≤ length d → Wrote (lineOf a) d 0 d' r → (r, d') ≡ answered a d
+pub answered-is : (a : Answer) (d d' : List ℕ) (r : ℕ) → 132 ≤ length d → Wrote (lineOf a) d 0 d' r → (r, d') ≡ answered a d
 unfolding answered
 answered-is a d d' r h w =
     let z : r ≡ length (lineOf a) = w .to ∙ zero-add (length (lineOf a)) in
-    let e : d' ≡ placed d 0 (lineOf a) = w .same in rw (le-ltb (length d) 96 h, z, e)
+    let e : d' ≡ placed d 0 (lineOf a) = w .same in rw (le-ltb (length d) 132 h, z, e)
 
--- No line is longer than 96 bytes.
+-- No line is longer than 132 bytes.
 places-most : (k n : ℕ) → places k n ≤ k + 1
 unfolding places
 places-most zero n = omega arith
@@ -109,23 +109,34 @@ name-most : (n : Name) → length (nameText n) ≤ 8
 unfolding nameText
 name-most Put = lit≤ tt
 name-most Get = lit≤ tt
+name-most Rect = lit≤ tt
 name-most Fill = lit≤ tt
+name-most Invert = lit≤ tt
+name-most Copy = lit≤ tt
+name-most Draw = lit≤ tt
+name-most Line = lit≤ tt
+name-most Arc = lit≤ tt
+name-most Pie = lit≤ tt
+name-most RoundRect = lit≤ tt
+name-most FillRoundRect = lit≤ tt
+name-most Lbmp = lit≤ tt
 
 status-most : (n : ℕ) → length (statusText n) ≤ 28
 unfolding statusText
 status-most n = rw length-append (omega (arith, decimal-most n))
 
-found-most : (f : Found) → length (foundText f) ≤ 27
-unfolding foundText
+found-most : (f : Found) → length (foundText f) ≤ 73
+unfolding foundText imageText
 found-most (Count n) = rw length-append (omega (arith, decimal-most n))
 found-most (Argb n) = rw length-append (omega (arith, decimal-most n))
 found-most Nothing = lit≤ tt
+found-most (Image w h clear) = simp length-append (omega (arith, decimal-most w, decimal-most h, decimal-most clear))
 
 hash-is : (h : ℕ) → length (hashText h) ≡ 23
 unfolding hashText hex
 hash-is h = rw (length-append, length-append, length-spelled 16 16 h)
 
-line-most : (a : Answer) → length (lineOf a) ≤ 96
+line-most : (a : Answer) → length (lineOf a) ≤ 132
 unfolding lineOf
 line-most a =
     simp length-append
@@ -134,8 +145,8 @@ line-most a =
 -- So what `write` answers is within the buffer.
 pub answered-within : (a : Answer) (d : List ℕ) → answered a d .0 ≤ length d
 unfolding answered
-answered-within a d = within (ltb (length d) 96) (ltb-false (length d) 96)
+answered-within a d = within (ltb (length d) 132) (ltb-false (length d) 132)
   where
-    within : (b : Bool) → (b ≡ false → 96 ≤ length d) → cond {A = ℕ × List ℕ} b (0, d) (length (lineOf a), placed d 0 (lineOf a)) .0 ≤ length d
+    within : (b : Bool) → (b ≡ false → 132 ≤ length d) → cond {A = ℕ × List ℕ} b (0, d) (length (lineOf a), placed d 0 (lineOf a)) .0 ≤ length d
     within true h = omega arith
     within false h = omega (arith, h refl, line-most a)

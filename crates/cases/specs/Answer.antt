@@ -4,11 +4,11 @@ use mathlib.Core.List.{List, [], _∷_, _++_}
 use Prim.Native.Nat.{ℕ, zero, suc, _+_, _/_, _%_}
 use lib.Dec.{ltb}
 use lib.ListN.{length, set}
-use Rattle.cases.specs.Call.{put, get, fill}
+use Rattle.cases.specs.Call.{put, get, rect, fill, invert, copy, draw, line, arc, pie, rrect, frrect, lbmp}
 use Rattle.cases.specs.declared.answer.Name.{Name}
-use Rattle.cases.specs.declared.answer.Name.the-variants.{Put, Get, Fill}
+use Rattle.cases.specs.declared.answer.Name.the-variants.{Put, Get, Rect, Fill, Invert, Copy, Draw, Line, Arc, Pie, RoundRect, FillRoundRect, Lbmp}
 use Rattle.cases.specs.declared.answer.Found.{Found}
-use Rattle.cases.specs.declared.answer.Found.the-variants.{Count, Argb, Nothing}
+use Rattle.cases.specs.declared.answer.Found.the-variants.{Count, Argb, Nothing, Image}
 use Rattle.cases.specs.declared.answer.Answer.{Answer}
 
 -- 0 to 9, then a to f.
@@ -36,13 +36,30 @@ hex n = spelled 16 16 n
 unfoldable pub nameText : Name → List ℕ
 nameText Put = put
 nameText Get = get
+nameText Rect = rect
 nameText Fill = fill
+nameText Invert = invert
+nameText Copy = copy
+nameText Draw = draw
+nameText Line = line
+nameText Arc = arc
+nameText Pie = pie
+nameText RoundRect = rrect
+nameText FillRoundRect = frrect
+nameText Lbmp = lbmp
+
+-- "`lbmp` has `w=N h=N clear=N` in the place of count."
+unfoldable pub imageText : ℕ → ℕ → ℕ → List ℕ
+imageText w h clear =
+    (((32 ∷ 119 ∷ 61 ∷ []) ++ decimal w) ++ ((32 ∷ 104 ∷ 61 ∷ []) ++ decimal h))
+    ++ ((32 ∷ 99 ∷ 108 ∷ 101 ∷ 97 ∷ 114 ∷ 61 ∷ []) ++ decimal clear)
 
 -- "count=N"; "`get` has `argb=N` in the place of count, or `none`."
 unfoldable pub foundText : Found → List ℕ
 foundText (Count n) = (32 ∷ 99 ∷ 111 ∷ 117 ∷ 110 ∷ 116 ∷ 61 ∷ []) ++ decimal n
 foundText (Argb n) = (32 ∷ 97 ∷ 114 ∷ 103 ∷ 98 ∷ 61 ∷ []) ++ decimal n
 foundText Nothing = 32 ∷ 110 ∷ 111 ∷ 110 ∷ 101 ∷ []
+foundText (Image w h clear) = imageText w h clear
 
 -- "status=N"
 unfoldable pub statusText : ℕ → List ℕ
@@ -60,6 +77,6 @@ unfoldable pub placed : List ℕ → ℕ → List ℕ → List ℕ
 placed d at [] = d
 placed d at (b ∷ t) = placed (set d at b) (at + 1) t
 
--- What answering leaves and answers: with less than 96 bytes lent, nothing.
+-- What answering leaves and answers: with less than 132 bytes lent, nothing.
 unfoldable pub answered : Answer → List ℕ → ℕ × List ℕ
-answered a d = cond (ltb (length d) 96) (0, d) (length (lineOf a), placed d 0 (lineOf a))
+answered a d = cond (ltb (length d) 132) (0, d) (length (lineOf a), placed d 0 (lineOf a))

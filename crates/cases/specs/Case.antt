@@ -1,28 +1,25 @@
 -- "One case a line": F W H X SEED OP ARGS.
-use mathlib.Core.Bool.{Bool, true, false, cond}
-use mathlib.Core.List.{List, _++_}
+use mathlib.Core.Bool.{cond}
+use mathlib.Core.List.{List, [], _∷_, _++_}
 use Prim.Native.Nat.{ℕ, _*_}
 use lib.Dec.{eqb, ltb, leb}
 use lib.ListN.{length, drop}
 use Rattle.canvas.specs.declared.Canvas.{Canvas}
 use Rattle.words.specs.Format.{formatOf, bytesPerPixel}
-use Rattle.cases.specs.Line.{Left, Value, value, none, Got, got, wordsOf}
+use Rattle.cases.specs.Line.{Left, words, lost, Value, value, none, Got, got, wordsOf}
 use Rattle.cases.specs.Number.{numberOf}
-use Rattle.cases.specs.Call.{callOf}
+use Rattle.cases.specs.Args.{screenOf}
+use Rattle.cases.specs.Call.{Asked, rowOf}
 use Rattle.cases.specs.Seed.{Sown, zeros, counted, given, seedOf, firstBytes}
-use Rattle.cases.specs.declared.call.Call.{Call}
-use Rattle.cases.specs.declared.call.Call.the-variants.{Put, Get, Fill}
 use Rattle.cases.specs.declared.case.Case.{Case}
 use Rattle.cases.specs.declared.case.Case.the-variants.{Bad, Of}
 
 -- "F: format number. W, H: sides. X: 1 for XOR on, 0 for off."
 unfoldable pub headOf : Left → Got Canvas
 headOf l =
-    let f = numberOf 4294967295 l in
-    let w = numberOf 4294967295 (f .left) in
-    let h = numberOf 4294967295 (w .left) in
-    let x = numberOf 1 (h .left) in
-    got (record { format = f .value; width = w .value; height = h .value; xor = eqb (x .value) 1 }) (x .left)
+    let v = screenOf l in
+    let x = numberOf 1 (v .left) in
+    got (record { format = v .value .format; width = v .value .width; height = v .value .height; xor = eqb (x .value) 1 }) (x .left)
 
 -- A canvas of a known format has its exact bytes.
 unfoldable pub exactly : Canvas → Value ℕ
@@ -42,21 +39,29 @@ unfoldable pub capped : ℕ → Value ℕ → Value ℕ
 capped room (value n) = fitting room n
 capped room none = none
 
--- The first bytes stand at the start of the bytes lent; without room for them the case is bad.
-unfoldable pub laid : Canvas → Call → Sown → Value ℕ → List ℕ → Case × List ℕ
-laid v c s (value n) bytes = (Of v n c, firstBytes s n ++ drop n bytes)
-laid v c s none bytes = (Bad, bytes)
+-- A call has exactly the words of its row.
+unfoldable pub whole : {A : Type 0} → Left → A → A → A
+whole (words []) a b = a
+whole (words (w ∷ ws)) a b = b
+whole lost a b = b
 
-unfoldable pub isBad : Call → Bool
-isBad Call.Bad = true
-isBad (Put x y c k) = false
-isBad (Get x y) = false
-isBad (Fill x y w h c k) = false
+-- What reading a line answers, and leaves in the canvas's bytes and the image's.
+abbrev pub Outcome : Type 0
+Outcome = Case × List ℕ × List ℕ
 
--- A line that can't be read is bad, and the bytes lent stay.
-unfoldable pub called : Canvas → Sown → Call → List ℕ → Case × List ℕ
-called v s c bytes = cond (isBad c) (Case.Bad, bytes) (laid v c s (capped (length bytes) (lent v s)) bytes)
+-- The first bytes of each stand at the start of the bytes lent; without room for them the case is bad, and what is lent
+-- stays.
+unfoldable pub laid : Canvas → Sown → Asked → Value ℕ → Value ℕ → List ℕ → List ℕ → Outcome
+laid v s a (value n) (value m) bytes image = (Of v n (a .call) m, firstBytes s n ++ drop n bytes, firstBytes (a .seed) m ++ drop m image)
+laid v s a (value n) none bytes image = (Bad, bytes, image)
+laid v s a none m bytes image = (Bad, bytes, image)
 
-unfoldable pub caseOf : List ℕ → List ℕ → Case × List ℕ
-caseOf line bytes =
-    let v = headOf (wordsOf line) in let s = seedOf (v .left) in called (v .value) (s .value) (callOf (s .left)) bytes
+unfoldable pub called : Canvas → Sown → Got Asked → List ℕ → List ℕ → Outcome
+called v s a bytes image =
+    whole (a .left)
+    (laid v s (a .value) (capped (length bytes) (lent v s)) (capped (length image) (lent (a .value .source) (a .value .seed))) bytes image)
+    (Bad, bytes, image)
+
+unfoldable pub caseOf : List ℕ → List ℕ → List ℕ → Outcome
+caseOf line bytes image =
+    let v = headOf (wordsOf line) in let s = seedOf (v .left) in called (v .value) (s .value) (rowOf (s .left)) bytes image

@@ -1,7 +1,8 @@
 pub mod Line
 pub mod Number
-pub mod Call
+pub mod Args
 pub mod Seed
+pub mod Call
 pub mod Case
 pub mod Hash
 pub mod Answer

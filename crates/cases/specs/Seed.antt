@@ -53,6 +53,17 @@ z = 122 ∷ []
 unfoldable pub seedOf : Left → Got Sown
 seedOf l = firstOf (got zeros (named z l)) (firstOf (next (counted 0) exact l) (countedBy (numberOf 4294967295 l)))
 
+abbrev pub minus : List ℕ
+minus = 45 ∷ []
+
+unfoldable pub filled : List ℕ → Value Sown
+filled [] = none
+filled (b ∷ w) = givenHex (b ∷ w)
+
+-- "the file's bytes, `-` for none"
+unfoldable pub fileOf : Left → Got Sown
+fileOf l = firstOf (got (given []) (named minus l)) (next (counted 0) filled l)
+
 -- "for each byte in turn s = s*1664525 + 1013904223 mod 2^32, and the byte is s >> 24"
 abbrev pub turned : ℕ → ℕ
 turned s = (s * 1664525 + 1013904223) % 4294967296

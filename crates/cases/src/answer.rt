@@ -3,21 +3,32 @@ ghost use mathlib.Core.Path.{_≡_};
 ghost use Prim.Native.Nat.{_≤_, _<_, _+_};
 ghost use mathlib.Core.List.{_++_};
 ghost use lib.ListN.{length};
-ghost use Rattle.cases.specs.Answer.{spelled, decimal, nameText, foundText, hashText, answered};
+ghost use Rattle.cases.specs.Answer.{spelled, decimal, nameText, imageText, foundText, hashText, answered};
 ghost use Rattle.cases.specs.Place.{Wrote};
 ghost use Rattle.cases.specs.Answer.{glyph as glyphOf, places as placesOf};
 
 pub enum Name {
     Put,
     Get,
+    Rect,
     Fill,
+    Invert,
+    Copy,
+    Draw,
+    Line,
+    Arc,
+    Pie,
+    RoundRect,
+    FillRoundRect,
+    Lbmp,
 }
 
-// What a call found: how many plots landed, a colour, or nothing.
+// What a call found: how many plots landed, a colour, nothing, or an image's sides and how many of its pixels are clear.
 pub enum Found {
     Count(u64),
     Argb(u32),
     Nothing,
+    Image { w: u32, h: u32, clear: u64 },
 }
 
 pub struct Answer {
@@ -110,19 +121,40 @@ fn put_name(out: &mut [u8], n: Name) -> usize
     match n {
         Name::Put => put_text(out, 0, b"put"),
         Name::Get => put_text(out, 0, b"get"),
+        Name::Rect => put_text(out, 0, b"rect"),
         Name::Fill => put_text(out, 0, b"fill"),
+        Name::Invert => put_text(out, 0, b"invert"),
+        Name::Copy => put_text(out, 0, b"copy"),
+        Name::Draw => put_text(out, 0, b"draw"),
+        Name::Line => put_text(out, 0, b"line"),
+        Name::Arc => put_text(out, 0, b"arc"),
+        Name::Pie => put_text(out, 0, b"pie"),
+        Name::RoundRect => put_text(out, 0, b"rrect"),
+        Name::FillRoundRect => put_text(out, 0, b"frrect"),
+        Name::Lbmp => put_text(out, 0, b"lbmp"),
     }
 }
 
+fn put_image(out: &mut [u8], at: usize, w: u32, h: u32, clear: u64) -> usize
+    requires { ⌜ at + 73 ≤ length (now out) ⌝ }
+    ensures { λ r. ⌜ Wrote (imageText w h clear) (now (out .entry)) at (now (out .exit)) r ⌝ }
+    ensures { λ r. ⌜ r ≤ at + 73 ⌝ }
+{
+    let a = put_field(out, at, b" w=", w as u64);
+    let b = put_field(out, a, b" h=", h as u64);
+    put_field(out, b, b" clear=", clear)
+}
+
 fn put_found(out: &mut [u8], at: usize, f: Found) -> usize
-    requires { ⌜ at + 27 ≤ length (now out) ⌝ }
+    requires { ⌜ at + 73 ≤ length (now out) ⌝ }
     ensures { λ r. ⌜ Wrote (foundText f) (now (out .entry)) at (now (out .exit)) r ⌝ }
-    ensures { λ r. ⌜ r ≤ at + 27 ⌝ }
+    ensures { λ r. ⌜ r ≤ at + 73 ⌝ }
 {
     match f {
         Found::Count(n) => put_field(out, at, b" count=", n),
         Found::Argb(n) => put_field(out, at, b" argb=", n as u64),
         Found::Nothing => put_text(out, at, b" none"),
+        Found::Image { w, h, clear } => put_image(out, at, w, h, clear),
     }
 }
 
@@ -136,12 +168,12 @@ fn put_hash(out: &mut [u8], at: usize, h: u64) -> usize
     put_text(out, b, b"\n")
 }
 
-// Puts the line that answers at the start of out, and answers its length. With less than 96 bytes lent it does
+// Puts the line that answers at the start of out, and answers its length. With less than 132 bytes lent it does
 // nothing, and answers 0.
 pub fn write(answer: Answer, out: &mut [u8]) -> usize
     ensures { λ r. ⌜ (r, now (out .exit)) ≡ answered answer (now (out .entry)) ⌝ }
 {
-    if out.len() < 96 {
+    if out.len() < 132 {
         return 0;
     }
     let n = answer.name;

@@ -3,11 +3,13 @@ ghost use mathlib.Core.Path.{_≡_};
 ghost use Prim.Native.Nat.{_<_, _^_};
 ghost use Rattle.words.specs.Format.{formatOf, bytesPerPixel};
 ghost use Rattle.cases.specs.Line.{wordsOf};
-ghost use Rattle.cases.specs.Place.{leftAt, readHead, sown, Within, Fills};
+ghost use Rattle.cases.specs.Place.{readScreen, sown, Within, Fills};
 ghost use Rattle.cases.specs.Case.{headOf, exactly, fitting, capped, caseOf};
 ghost use Rattle.cases.specs.Case.{lent as lentTo};
+use crate::args::Screened;
+use crate::args::read_screen;
 use crate::call::Call;
-use crate::call::read_call;
+use crate::call::read_row;
 use crate::number::read_number;
 use crate::seed::Seed;
 use crate::seed::read_seed;
@@ -17,27 +19,21 @@ use canvas::Canvas;
 pub enum Case {
     // The line can't be read.
     Bad,
-    // The canvas, how many bytes it is lent, and the call.
-    Of(Canvas, usize, Call),
+    // The canvas, how many bytes it is lent, the call, and how many bytes the image beside the canvas has.
+    Of(Canvas, usize, Call, usize),
 }
 
-struct Head {
-    canvas: Canvas,
-    next: usize,
-}
-
-fn read_head(line: &[u8]) -> Head
-    ensures { λ r. ⌜ readHead (now (line .entry)) r ≡ headOf (wordsOf (now (line .entry))) ⌝ }
+fn read_head(line: &[u8]) -> Screened
+    ensures { λ r. ⌜ readScreen (now (line .entry)) r ≡ headOf (wordsOf (now (line .entry))) ⌝ }
 {
-    let f = read_number(line, 0, 4294967295);
-    let w = read_number(line, f.next, 4294967295);
-    let h = read_number(line, w.next, 4294967295);
-    let x = read_number(line, h.next, 1);
-    Head {
+    let v = read_screen(line, 0);
+    let x = read_number(line, v.next, 1);
+    let sides = v.canvas;
+    Screened {
         canvas: Canvas {
-            format: f.value,
-            width: w.value,
-            height: h.value,
+            format: sides.format,
+            width: sides.width,
+            height: sides.height,
             xor: x.value == 1,
         },
         next: x.next,
@@ -90,15 +86,16 @@ fn lent(line: &[u8], canvas: Canvas, seed: Seed, room: usize) -> usize
     }
 }
 
-// Reads a line: the canvas and the call, and the first bytes at the start of bytes. A case that needs more bytes than
-// are lent is bad, and a bad line leaves bytes as they were.
-pub fn read(line: &[u8], bytes: &mut [u8]) -> Case
-    ensures { λ r. ⌜ (r, now (bytes .exit)) ≡ caseOf (now (line .entry)) (now (bytes .entry)) ⌝ }
+// Reads a line: the canvas and the call, the first bytes at the start of bytes, and those of the image beside the
+// canvas at the start of image. A case that needs more bytes than are lent is bad, and a bad line leaves both as they
+// were.
+pub fn read(line: &[u8], bytes: &mut [u8], image: &mut [u8]) -> Case
+    ensures { λ r. ⌜ (r, now (bytes .exit), now (image .exit)) ≡ caseOf (now (line .entry)) (now (bytes .entry)) (now (image .entry)) ⌝ }
 {
     let h = read_head(line);
     let s = read_seed(line, h.next);
-    let c = read_call(line, s.next);
-    if let Call::Bad = c {
+    let c = read_row(line, s.next);
+    if c.next != line.len() + 1 {
         return Case::Bad;
     }
     let canvas = h.canvas;
@@ -107,6 +104,14 @@ pub fn read(line: &[u8], bytes: &mut [u8]) -> Case
     if bytes.len() < n {
         return Case::Bad;
     }
+    let source = c.source;
+    let held = c.seed;
+    let m = lent(line, source, held, image.len());
+    if image.len() < m {
+        return Case::Bad;
+    }
     sow(line, seed, &mut bytes[..n]);
-    Case::Of(canvas, n, c)
+    sow(line, held, &mut image[..m]);
+    let call = c.call;
+    Case::Of(canvas, n, call, m)
 }

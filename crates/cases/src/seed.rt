@@ -4,7 +4,7 @@ ghost use Prim.Native.Nat.{_≤_, _+_, _*_};
 ghost use lib.ListN.{length, replicate};
 ghost use Rattle.cases.specs.Line.{next};
 ghost use Rattle.cases.specs.Place.{leftAt, readSeed, Within, Fills, sown, pairs};
-ghost use Rattle.cases.specs.Seed.{seedOf, exact, counted, givenHex, firstBytes, turns};
+ghost use Rattle.cases.specs.Seed.{seedOf, exact, counted, givenHex, fileOf, firstBytes, turns};
 ghost use Rattle.cases.specs.Seed.{nibble as nibbleOf};
 use crate::number::named;
 use crate::number::read_number;
@@ -62,6 +62,33 @@ fn read_exact(line: &[u8], at: usize) -> Seeded
         };
     }
     read_hex(line, at + 1)
+}
+
+// A file's bytes at a place, in hex; a minus is none.
+pub(crate) fn read_file(line: &[u8], at: usize) -> Seeded
+    ensures { λ r. ⌜ readSeed (now (line .entry)) r ≡ fileOf (leftAt (now (line .entry)) at) ⌝ }
+    ensures { λ r. ⌜ Within (now (line .entry)) (r .seed) ⌝ }
+{
+    let m = named(line, at, b"-");
+    if m < line.len() + 2 {
+        return Seeded {
+            seed: Seed::Bytes(0, 0),
+            next: m,
+        };
+    }
+    if line.len() <= at {
+        return Seeded {
+            seed: Seed::Number(0),
+            next: line.len() + 2,
+        };
+    }
+    if line[at] == 32 {
+        return Seeded {
+            seed: Seed::Number(0),
+            next: line.len() + 2,
+        };
+    }
+    read_hex(line, at)
 }
 
 // The pairs of hex digits from a place up to the word's end.

@@ -7,10 +7,14 @@ use canvas::Clip;
 use canvas::Drawn;
 use canvas::Pixel;
 use cases::Answer;
+use cases::Boxed;
 use cases::Call;
+use cases::Extent;
 use cases::Found;
 use cases::Name;
-use words::Color;
+use cases::Paint;
+use cases::Point;
+use lbmp::Judged;
 
 // What a drawing call answers.
 fn drawn(name: Name, d: Drawn, bytes: &[u8]) -> Answer {
@@ -53,42 +57,110 @@ fn reply(a: Answer, out: &mut [u8]) -> usize
     cases::write(a, out)
 }
 
-fn put(
-    v: Canvas,
-    bytes: &mut [u8],
-    x: i32,
-    y: i32,
-    color: Color,
-    clip: Clip,
-    out: &mut [u8],
-) -> usize
+fn put(v: Canvas, bytes: &mut [u8], p: Point, k: Paint, out: &mut [u8]) -> usize
     ensures { λ r. ⌜ r ≤ length (now (out .entry)) ⌝ }
 {
-    let d = canvas::put_pixel(v, bytes, x, y, color, clip);
+    let d = canvas::put_pixel(v, bytes, p.x, p.y, k.color, k.clip);
     reply(drawn(Name::Put, d, bytes), out)
 }
 
-fn get(v: Canvas, bytes: &[u8], x: i32, y: i32, out: &mut [u8]) -> usize
+fn get(v: Canvas, bytes: &[u8], p: Point, out: &mut [u8]) -> usize
     ensures { λ r. ⌜ r ≤ length (now (out .entry)) ⌝ }
 {
-    reply(seen(canvas::get_pixel(v, bytes, x, y), bytes), out)
+    reply(seen(canvas::get_pixel(v, bytes, p.x, p.y), bytes), out)
 }
 
-fn fill(
-    v: Canvas,
-    bytes: &mut [u8],
-    x: i32,
-    y: i32,
-    w: u32,
-    h: u32,
-    color: Color,
-    clip: Clip,
-    out: &mut [u8],
-) -> usize
+fn rect(v: Canvas, bytes: &mut [u8], b: Boxed, out: &mut [u8]) -> usize
     ensures { λ r. ⌜ r ≤ length (now (out .entry)) ⌝ }
 {
-    let d = canvas::fill_rect(v, bytes, x, y, w, h, color, clip);
+    let p = b.corner;
+    let e = b.size;
+    let k = b.paint;
+    let d = canvas::draw_rect(v, bytes, p.x, p.y, e.w, e.h, k.color, k.clip);
+    reply(drawn(Name::Rect, d, bytes), out)
+}
+
+fn fill(v: Canvas, bytes: &mut [u8], b: Boxed, out: &mut [u8]) -> usize
+    ensures { λ r. ⌜ r ≤ length (now (out .entry)) ⌝ }
+{
+    let p = b.corner;
+    let e = b.size;
+    let k = b.paint;
+    let d = canvas::fill_rect(v, bytes, p.x, p.y, e.w, e.h, k.color, k.clip);
     reply(drawn(Name::Fill, d, bytes), out)
+}
+
+fn invert(v: Canvas, bytes: &mut [u8], p: Point, e: Extent, clip: Clip, out: &mut [u8]) -> usize
+    ensures { λ r. ⌜ r ≤ length (now (out .entry)) ⌝ }
+{
+    let d = canvas::invert_rect(v, bytes, p.x, p.y, e.w, e.h, clip);
+    reply(drawn(Name::Invert, d, bytes), out)
+}
+
+// What the reading of a file answers; the words are those that it wrote, or none.
+fn decoded(j: Judged, words: &[u32]) -> Answer {
+    let hash = cases::hash_words(words);
+    match j {
+        Judged::Refused(r) => Answer {
+            name: Name::Lbmp,
+            status: r.number(),
+            found: Found::Image {
+                w: 0,
+                h: 0,
+                clear: 0,
+            },
+            hash,
+        },
+        Judged::Sound(i) => Answer {
+            name: Name::Lbmp,
+            status: 0,
+            found: Found::Image {
+                w: i.width,
+                h: i.height,
+                clear: i.clear,
+            },
+            hash,
+        },
+    }
+}
+
+// How many words a file's reading wrote.
+fn written(j: Judged) -> usize {
+    match j {
+        Judged::Refused(_) => 0,
+        Judged::Sound(i) => i.width as usize * i.height as usize,
+    }
+}
+
+// Reads a file into the words lent.
+fn decode(file: &[u8], words: &mut [u32], out: &mut [u8]) -> usize
+    ensures { λ r. ⌜ r ≤ length (now (out .entry)) ⌝ }
+{
+    let j = lbmp::decode_lbmp(file, words);
+    let n = written(j);
+    if words.len() < n {
+        return bad(out);
+    }
+    reply(decoded(j, &words[..n]), out)
+}
+
+// Lends as many words as the case says, or all where it says more.
+fn lend(file: &[u8], room: u32, words: &mut [u32], out: &mut [u8]) -> usize
+    ensures { λ r. ⌜ r ≤ length (now (out .entry)) ⌝ }
+{
+    let n = room as usize;
+    if words.len() < n {
+        return decode(file, words, out);
+    }
+    decode(file, &mut words[..n], out)
+}
+
+// No file that a line holds has as many pixels.
+fn bitmap(file: &[u8], room: u32, out: &mut [u8]) -> usize
+    ensures { λ r. ⌜ r ≤ length (now (out .entry)) ⌝ }
+{
+    let mut words = [0u32; 131072];
+    lend(file, room, &mut words, out)
 }
 
 pub(crate) fn bad(out: &mut [u8]) -> usize
@@ -104,21 +176,40 @@ pub(crate) fn bad(out: &mut [u8]) -> usize
     4
 }
 
-// Makes the call on the case's bytes, and puts the answer at the start of out.
-pub(crate) fn run(v: Canvas, bytes: &mut [u8], c: Call, out: &mut [u8]) -> usize
+// Makes the call on the case's bytes and image, and puts the answer at the start of out.
+pub(crate) fn run(v: Canvas, bytes: &mut [u8], c: Call, image: &[u8], out: &mut [u8]) -> usize
     ensures { λ r. ⌜ r ≤ length (now (out .entry)) ⌝ }
 {
     match c {
-        Call::Bad => bad(out),
-        Call::Put { x, y, color, clip } => put(v, bytes, x, y, color, clip, out),
-        Call::Get { x, y } => get(v, bytes, x, y, out),
-        Call::Fill {
-            x,
-            y,
-            w,
-            h,
-            color,
-            clip,
-        } => fill(v, bytes, x, y, w, h, color, clip, out),
+        Call::Put { point, paint } => put(v, bytes, point, paint, out),
+        Call::Get(point) => get(v, bytes, point, out),
+        Call::Rect(b) => rect(v, bytes, b, out),
+        Call::Fill(b) => fill(v, bytes, b, out),
+        Call::Invert { corner, size, clip } => invert(v, bytes, corner, size, clip, out),
+        // Until canvas copies and draws.
+        Call::Copy {
+            to: _,
+            from: _,
+            size: _,
+            clip: _,
+        } => bad(out),
+        Call::Draw {
+            corner: _,
+            size: _,
+            source: _,
+            from: _,
+            clip: _,
+        } => bad(out),
+        // Until canvas has these calls.
+        Call::Line {
+            from: _,
+            to: _,
+            paint: _,
+        } => bad(out),
+        Call::Arc(_) => bad(out),
+        Call::Pie(_) => bad(out),
+        Call::RoundRect(_) => bad(out),
+        Call::FillRoundRect(_) => bad(out),
+        Call::Lbmp(room) => bitmap(image, room, out),
     }
 }

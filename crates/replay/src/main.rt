@@ -15,34 +15,37 @@ use libc::STDOUT_FILENO;
 const LONGEST: usize = 65536;
 
 // Answers a line at the start of out.
-fn answer(line: &[u8], bytes: &mut [u8], out: &mut [u8]) -> usize
+fn answer(line: &[u8], bytes: &mut [u8], image: &mut [u8], out: &mut [u8]) -> usize
     ensures { λ r. ⌜ r ≤ length (now (out .entry)) ⌝ }
 {
     if LONGEST < line.len() {
         return bad(out);
     }
-    match cases::read(line, bytes) {
+    match cases::read(line, bytes, image) {
         Case::Bad => bad(out),
-        Case::Of(v, n, c) => {
+        Case::Of(v, n, c, m) => {
             if bytes.len() < n {
                 return bad(out);
             }
-            run(v, &mut bytes[..n], c, out)
+            if image.len() < m {
+                return bad(out);
+            }
+            run(v, &mut bytes[..n], c, &image[..m], out)
         }
     }
 }
 
 // Answers a line behind what out holds, which is written out first where little room is left.
-fn step(line: &[u8], bytes: &mut [u8], out: &mut [u8], used: usize) -> usize
+fn step(line: &[u8], bytes: &mut [u8], image: &mut [u8], out: &mut [u8], used: usize) -> usize
     requires { ⌜ used ≤ length (now out) ⌝ }
     ensures { λ r. ⌜ r ≤ length (now (out .entry)) ⌝ }
 {
-    if used + 96 <= out.len() {
-        let n = answer(line, bytes, &mut out[used..]);
+    if used + 132 <= out.len() {
+        let n = answer(line, bytes, image, &mut out[used..]);
         return used + n;
     }
     io::write_all(STDOUT_FILENO, &out[..used]);
-    answer(line, bytes, out)
+    answer(line, bytes, image, out)
 }
 
 // The index of the first line end at or after a place, or the text's length.
@@ -67,7 +70,14 @@ struct Done {
 }
 
 // Answers each whole line of a text from a place on.
-fn lines(text: &[u8], bytes: &mut [u8], out: &mut [u8], from: usize, used: usize) -> Done
+fn lines(
+    text: &[u8],
+    bytes: &mut [u8],
+    image: &mut [u8],
+    out: &mut [u8],
+    from: usize,
+    used: usize,
+) -> Done
     requires { ⌜ from ≤ length (now text) ⌝ }
     requires { ⌜ used ≤ length (now out) ⌝ }
     ensures { λ r. ⌜ (r .at ≤ length (now (text .entry))) × (r .used ≤ length (now (out .entry))) ⌝ }
@@ -76,7 +86,7 @@ fn lines(text: &[u8], bytes: &mut [u8], out: &mut [u8], from: usize, used: usize
     let mut u = used;
     let mut end = line_end(text, at);
     while end < text.len() {
-        u = step(&text[at..end], bytes, out, u);
+        u = step(&text[at..end], bytes, image, out, u);
         at = end + 1;
         end = line_end(text, at);
     }
@@ -107,6 +117,7 @@ struct State {
 fn keep(
     text: &mut [u8],
     bytes: &mut [u8],
+    image: &mut [u8],
     out: &mut [u8],
     from: usize,
     end: usize,
@@ -116,7 +127,7 @@ fn keep(
     requires { ⌜ used ≤ length (now out) ⌝ }
     ensures { λ r. ⌜ (r .held ≤ 65536) × (r .used ≤ length (now (out .entry))) ⌝ }
 {
-    let d = lines(&text[..end], bytes, out, from, used);
+    let d = lines(&text[..end], bytes, image, out, from, used);
     let at = d.at;
     shift(text, at, end);
     if LONGEST < end - at {
@@ -136,7 +147,14 @@ fn keep(
 }
 
 // The same where the first line is the rest of one that is too long: once it ends, it is answered as an empty one is.
-fn resume(text: &mut [u8], bytes: &mut [u8], out: &mut [u8], end: usize, used: usize) -> State
+fn resume(
+    text: &mut [u8],
+    bytes: &mut [u8],
+    image: &mut [u8],
+    out: &mut [u8],
+    end: usize,
+    used: usize,
+) -> State
     requires { ⌜ end ≤ length (now text) ⌝ }
     requires { ⌜ used ≤ length (now out) ⌝ }
     ensures { λ r. ⌜ (r .held ≤ 65536) × (r .used ≤ length (now (out .entry))) ⌝ }
@@ -150,12 +168,12 @@ fn resume(text: &mut [u8], bytes: &mut [u8], out: &mut [u8], end: usize, used: u
             more: true,
         };
     }
-    let u = step(&text[..0], bytes, out, used);
-    keep(text, bytes, out, e + 1, end, u)
+    let u = step(&text[..0], bytes, image, out, used);
+    keep(text, bytes, image, out, e + 1, end, u)
 }
 
 // Reads once and answers the whole lines.
-fn turn(s: State, text: &mut [u8], bytes: &mut [u8], out: &mut [u8]) -> State
+fn turn(s: State, text: &mut [u8], bytes: &mut [u8], image: &mut [u8], out: &mut [u8]) -> State
     requires { ⌜ (s .held ≤ 65536) × (131072 ≤ length (now text)) ⌝ }
     requires { ⌜ s .used ≤ length (now out) ⌝ }
     ensures { λ r. ⌜ (r .held ≤ 65536) × (r .used ≤ length (now (out .entry))) ⌝ }
@@ -172,14 +190,14 @@ fn turn(s: State, text: &mut [u8], bytes: &mut [u8], out: &mut [u8]) -> State
     }
     let n = io::count(got, &text[held..]);
     if s.long {
-        return resume(text, bytes, out, held + n, s.used);
+        return resume(text, bytes, image, out, held + n, s.used);
     }
-    keep(text, bytes, out, 0, held + n, s.used)
+    keep(text, bytes, image, out, 0, held + n, s.used)
 }
 
 // Reads and answers until nothing more comes. A proved loop has to end, so it counts its turns down from a number
 // that no run uses up.
-fn turns(text: &mut [u8], bytes: &mut [u8], out: &mut [u8]) -> State
+fn turns(text: &mut [u8], bytes: &mut [u8], image: &mut [u8], out: &mut [u8]) -> State
     requires { ⌜ 131072 ≤ length (now text) ⌝ }
     ensures { λ r. ⌜ (r .held ≤ 65536) × (r .used ≤ length (now (out .entry))) ⌝ }
 {
@@ -194,34 +212,34 @@ fn turns(text: &mut [u8], bytes: &mut [u8], out: &mut [u8]) -> State
         if !s.more {
             return s;
         }
-        s = turn(s, text, bytes, out);
+        s = turn(s, text, bytes, image, out);
         left -= 1;
     }
     s
 }
 
 // A last line without a line end counts too.
-fn last(s: State, text: &[u8], bytes: &mut [u8], out: &mut [u8]) -> usize
+fn last(s: State, text: &[u8], bytes: &mut [u8], image: &mut [u8], out: &mut [u8]) -> usize
     requires { ⌜ s .held ≤ length (now text) ⌝ }
     requires { ⌜ s .used ≤ length (now out) ⌝ }
     ensures { λ r. ⌜ r ≤ length (now (out .entry)) ⌝ }
 {
     let held = s.held;
     if s.long {
-        return step(&text[..0], bytes, out, s.used);
+        return step(&text[..0], bytes, image, out, s.used);
     }
     if 0 < held {
-        return step(&text[..held], bytes, out, s.used);
+        return step(&text[..held], bytes, image, out, s.used);
     }
     s.used
 }
 
 // Answers all of standard input.
-fn serve(text: &mut [u8], bytes: &mut [u8; 1048576], out: &mut [u8])
+fn serve(text: &mut [u8], bytes: &mut [u8; 1048576], image: &mut [u8; 1048576], out: &mut [u8])
     requires { ⌜ 131072 ≤ length (now text) ⌝ }
 {
-    let s = turns(text, bytes, out);
-    let used = last(s, text, bytes, out);
+    let s = turns(text, bytes, image, out);
+    let used = last(s, text, bytes, image, out);
     io::write_all(STDOUT_FILENO, &out[..used]);
 }
 
@@ -232,7 +250,7 @@ fn text_buffer() -> [u8; 131072]
     [0; 131072]
 }
 
-// Room for the largest canvas that is tried, 1,048,576 bytes.
+// Room for the largest canvas or image that is tried, 1,048,576 bytes.
 fn canvas_buffer() -> [u8; 1048576] {
     [0; 1048576]
 }
@@ -240,6 +258,7 @@ fn canvas_buffer() -> [u8; 1048576] {
 fn main() {
     let mut text = text_buffer();
     let mut bytes = canvas_buffer();
+    let mut image = canvas_buffer();
     let mut out = io::large_buffer();
-    serve(&mut text, &mut bytes, &mut out);
+    serve(&mut text, &mut bytes, &mut image, &mut out);
 }

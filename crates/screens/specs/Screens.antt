@@ -9,6 +9,7 @@ use Rattle.words.specs.Word.{color, fromColor, toColor}
 use Rattle.words.specs.Ink.{xorColor}
 use Rattle.canvas.specs.declared.Clip.{Clip}
 use Rattle.canvas.specs.Clip.{intersection}
+use Rattle.lbmp.specs.Image.{grey, wordUnder}
 
 abbrev pub clip : ℕ → ℕ → ℕ → ℕ → Clip
 clip x y w h = record { x = pos x; y = pos y; width = w; height = h }
@@ -18,12 +19,16 @@ pub data Row : Type 0 where
   reads : Format → ℕ → Color → Row
   xors : Format → ℕ → Color → ℕ → Row
   meets : Clip → Clip → Clip → Row
+  greys : ℕ → ℕ → Row
+  masks : Format → ℕ → ℕ → Row
 
 abbrev pub Holds : Row → Type 0
 Holds (stores f c w) = fromColor f c ≡ w
 Holds (reads f w c) = toColor f w ≡ c
 Holds (xors f w c w′) = xorColor f w c ≡ w′
 Holds (meets c d e) = intersection c d ≡ e
+Holds (greys v g) = grey v ≡ g
+Holds (masks f w w′) = wordUnder 1 (toColor f w) ≡ w′
 
 pub data Every : List Row → Type 0 where
   none : Every []
@@ -33,6 +38,7 @@ pub data Every : List Row → Type 0 where
 -- "0xAD reads 180,108,85. 0xCB26 reads 206,101,49."
 -- "ARGB 0x00FF00FF XOR red: 0xFF0000FF; again: 0xFFFF00FF."
 -- "Clips (0,0,10,10) and (5,6,10,10): (5,6,5,4). (0,0,4,4) and (10,0,4,4): (10,0,0,4)."
+-- "LBMP greys for 0,1,2,3: 255,170,85,0. Type 8 byte 0xAD under a mask bit: 0x00B46C55."
 unfoldable pub table : List Row
 table =
     stores rgb332 (color 128 200 100 50) 0xAD
@@ -46,4 +52,9 @@ table =
     ∷ xors argb 0xFF0000FF (color 255 255 0 0) 0xFFFF00FF
     ∷ meets (clip 0 0 10 10) (clip 5 6 10 10) (clip 5 6 5 4)
     ∷ meets (clip 0 0 4 4) (clip 10 0 4 4) (clip 10 0 0 4)
+    ∷ greys 0 255
+    ∷ greys 1 170
+    ∷ greys 2 85
+    ∷ greys 3 0
+    ∷ masks rgb332 0xAD 0x00B46C55
     ∷ []

@@ -13,19 +13,26 @@ use Rattle.canvas.specs.declared.Canvas.{Canvas}
 use Rattle.canvas.specs.declared.Clip.{Clip}
 use Rattle.canvas.specs.declared.Drawn.{Drawn}
 use Rattle.canvas.specs.declared.Pixel.{Pixel}
-use Rattle.canvas.specs.Call.{Call, outcome, statusOf, countOf, leaves, call}
+use Rattle.canvas.specs.Call.{Call, Outcome, outcome, statusOf, countOf, leaves, call}
 use Rattle.canvas.specs.Look.{reads, pixelAt}
 use Rattle.tuyrashka.specs.Exported.{color, clip, Told, tells}
 
--- a drawing call of a colour under a clip, at a point
+-- a call under a clip, at a point, whose outcome is a definition's
+pub answers : (b′ : List ℕ) (g : ℤ → ℤ → Clip → Outcome) (x y cx cy : ℤ) (cw ch s n : ℕ) (d : Drawn)
+    → SFits w32 x → SFits w32 y → SFits w32 cx → SFits w32 cy → s ≡ statusOf d → n ≡ countOf d
+    → leaves d b′ ≡ g (toZ w32 (ofZ w32 x)) (toZ w32 (ofZ w32 y)) (clip (toZ w32 (ofZ w32 cx)) (toZ w32 (ofZ w32 cy)) cw ch)
+    → outcome s n b′ ≡ g x y (clip cx cy cw ch)
+answers b′ g x y cx cy cw ch s n d sx sy scx scy es en h =
+    ap₂ (λ (i j : ℕ). outcome i j b′) es en ∙ (rw (toZ-ofZ w32 x sx, toZ-ofZ w32 y sy, toZ-ofZ w32 cx scx, toZ-ofZ w32 cy scy) at h)
+
+-- a drawing call of a colour
 pub exports : (v : Canvas) (b b′ : List ℕ) (k : ℤ → ℤ → Color → Clip → Call) (x y cx cy : ℤ) (cw ch w s n : ℕ) (d : Drawn) (c : Color)
     → SFits w32 x → SFits w32 y → SFits w32 cx → SFits w32 cy → c ≡ toColor (formatOf 3) w → s ≡ statusOf d → n ≡ countOf d
     → leaves d b′ ≡ call v (k (toZ w32 (ofZ w32 x)) (toZ w32 (ofZ w32 y)) c (clip (toZ w32 (ofZ w32 cx)) (toZ w32 (ofZ w32 cy)) cw ch)) b
     → outcome s n b′ ≡ call v (k x y (color w) (clip cx cy cw ch)) b
 unfolding formatOf
 exports v b b′ k x y cx cy cw ch w s n d c sx sy scx scy ec es en h =
-    ap₂ (λ (i j : ℕ). outcome i j b′) es en
-    ∙ (rw (ec, toZ-ofZ w32 x sx, toZ-ofZ w32 y sy, toZ-ofZ w32 cx scx, toZ-ofZ w32 cy scy) at h)
+    answers b′ (λ i j z. call v (k i j (color w) z) b) x y cx cy cw ch s n d sx sy scx scy es en (rw ec at h)
 
 -- a pixel read
 pub shows : (v : Canvas) (b : List ℕ) (x y : ℤ) (p : Pixel) (t : Told) → SFits w32 x → SFits w32 y

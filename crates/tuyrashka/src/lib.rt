@@ -1,8 +1,12 @@
 // What C and Rust link: the calls on numbers and slices, declared in include/tuyrashka.h.
 ghost use mathlib.Core.Path.{_≡_};
-ghost use Rattle.canvas.specs.Call.{putPixel, fillRect, outcome, call};
+ghost use Rattle.canvas.specs.Call.{putPixel, drawRect, fillRect, outcome, call};
+ghost use Rattle.canvas.specs.Areas.{invertRect};
 ghost use Rattle.canvas.specs.Look.{pixelAt};
 ghost use Rattle.tuyrashka.specs.Exported.{canvas, clip, color, told, tells};
+
+mod bitmap;
+
 use canvas::Canvas;
 use canvas::Clip;
 use canvas::Pixel;
@@ -44,6 +48,44 @@ pub extern "C" fn tuyrashka_put_pixel(
 }
 
 #[no_mangle]
+pub extern "C" fn tuyrashka_draw_rect(
+    format: u32,
+    width: u32,
+    height: u32,
+    xor: bool,
+    bytes: &mut [u8],
+    x: i32,
+    y: i32,
+    w: u32,
+    h: u32,
+    argb: u32,
+    cx: i32,
+    cy: i32,
+    cw: u32,
+    ch: u32,
+    count: &mut u64,
+) -> u32
+    ensures { λ r. ⌜ outcome r (now (count .exit)) (now (bytes .exit)) ≡ call (canvas format width height xor) (drawRect x y w h (color argb) (clip cx cy cw ch)) (now (bytes .entry)) ⌝ }
+{
+    let v = Canvas {
+        format: format,
+        width: width,
+        height: height,
+        xor: xor,
+    };
+    let c = Clip {
+        x: cx,
+        y: cy,
+        width: cw,
+        height: ch,
+    };
+    let k = words::to_color(3, argb);
+    let d = canvas::draw_rect(v, bytes, x, y, w, h, k, c);
+    *count = d.count();
+    d.status()
+}
+
+#[no_mangle]
 pub extern "C" fn tuyrashka_fill_rect(
     format: u32,
     width: u32,
@@ -77,6 +119,42 @@ pub extern "C" fn tuyrashka_fill_rect(
     };
     let k = words::to_color(3, argb);
     let d = canvas::fill_rect(v, bytes, x, y, w, h, k, c);
+    *count = d.count();
+    d.status()
+}
+
+#[no_mangle]
+pub extern "C" fn tuyrashka_invert_rect(
+    format: u32,
+    width: u32,
+    height: u32,
+    xor: bool,
+    bytes: &mut [u8],
+    x: i32,
+    y: i32,
+    w: u32,
+    h: u32,
+    cx: i32,
+    cy: i32,
+    cw: u32,
+    ch: u32,
+    count: &mut u64,
+) -> u32
+    ensures { λ r. ⌜ outcome r (now (count .exit)) (now (bytes .exit)) ≡ invertRect (canvas format width height xor) x y w h (clip cx cy cw ch) (now (bytes .entry)) ⌝ }
+{
+    let v = Canvas {
+        format: format,
+        width: width,
+        height: height,
+        xor: xor,
+    };
+    let c = Clip {
+        x: cx,
+        y: cy,
+        width: cw,
+        height: ch,
+    };
+    let d = canvas::invert_rect(v, bytes, x, y, w, h, c);
     *count = d.count();
     d.status()
 }

@@ -9,7 +9,7 @@ slice-reshare-prefix-line-end : tie.Need-slice-reshare-prefix-line-end
 slice-reshare-prefix-line-end c = search needs
 
 slice-aggregate-line-end : tie.Need-slice-aggregate-line-end
-slice-aggregate-line-end c = sym (length-take-le _ _ (c .before .before .before .before .pre .0))
+slice-aggregate-line-end c = sym (length-take-le _ _ (c .before .before .before .before .before .pre .0))
 
 line-end-requires : tie.Need-line-end-requires
 line-end-requires c κs = search needs
@@ -44,6 +44,9 @@ same-length-3 c = search needs
 same-length-4 : tie.Need-same-length-4
 same-length-4 c = search needs
 
+same-length-5 : tie.Need-same-length-5
+same-length-5 c = search needs
+
 returns-2 : tie.Need-returns-2
 returns-2 c = search needs
 
@@ -64,4 +67,5 @@ resume-spec =
     same-length-2
     same-length-3
     same-length-4
+    same-length-5
     returns-2)

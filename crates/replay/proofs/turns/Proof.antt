@@ -8,13 +8,13 @@ use Rattle.replay.proofs.turns.Statement.{statement}
 use Rattle.replay.proofs.turns.Tie as tie
 
 abbrev Inv-loop : tie.InvT-loop
-Inv-loop text₀ bytes₀ out₀ s₀ left₀ text bytes out s left = (length text ≡ length text₀) × (length bytes ≡ length bytes₀) × (length out ≡ length out₀) × (s .held ≤ 65536) × (s .used ≤ length out₀)
+Inv-loop text₀ bytes₀ image₀ out₀ s₀ left₀ text bytes image out s left = (length text ≡ length text₀) × (length bytes ≡ length bytes₀) × (length image ≡ length image₀) × (length out ≡ length out₀) × (s .held ≤ 65536) × (s .used ≤ length out₀)
 
 abbrev μ-loop : tie.MeasureT-loop
-μ-loop text₀ bytes₀ out₀ s₀ left₀ text bytes out s left = left
+μ-loop text₀ bytes₀ image₀ out₀ s₀ left₀ text bytes image out s left = left
 
 loop-holds : tie.Need-loop-holds Inv-loop μ-loop
-loop-holds c = (refl, refl, refl, omega arith, omega arith)
+loop-holds c = (refl, refl, refl, refl, omega arith, omega arith)
 
 same-length : tie.Need-same-length Inv-loop μ-loop
 same-length c = omega arith
@@ -24,6 +24,9 @@ same-length-2 c = omega arith
 
 same-length-3 : tie.Need-same-length-3 Inv-loop μ-loop
 same-length-3 c = omega arith
+
+same-length-4 : tie.Need-same-length-4 Inv-loop μ-loop
+same-length-4 c = omega arith
 
 returns : tie.Need-returns Inv-loop μ-loop
 returns c = omega arith
@@ -39,18 +42,21 @@ loop-less c = omega arith
 
 loop-again : tie.Need-loop-again Inv-loop μ-loop
 loop-again c =
-    let l = c .before .before .before .before .before .before .before .before .before .before .before .before .before .loop in
-    let turn = c .before .before .before .before .before .before .turn in
-    (turn .kept .1 .0 ∙ l .inv .0, turn .kept .1 .1 .0 ∙ l .inv .1, turn .kept .1 .1 .1 .0 ∙ l .inv .2, turn .ensures .0, omega (arith, turn .ensures .1))
-
-same-length-4 : tie.Need-same-length-4 Inv-loop μ-loop
-same-length-4 c = omega arith
+    let turn = c .before .before .before .before .before .before .before .before .turn in
+    let l = c .before .before .before .before .before .before .before .before .before .before .before .before .before .before .before .before .loop in
+    (turn .kept .1 .0 ∙ l .inv .0, turn .kept .1 .1 .0 ∙ l .inv .1, turn .kept .1 .1 .1 .0 ∙ l .inv .2, turn .kept .1 .1 .1 .1 .0 ∙ l .inv .3, turn .ensures .0, omega (arith, turn .ensures .1))
 
 same-length-5 : tie.Need-same-length-5 Inv-loop μ-loop
 same-length-5 c = omega arith
 
 same-length-6 : tie.Need-same-length-6 Inv-loop μ-loop
 same-length-6 c = omega arith
+
+same-length-7 : tie.Need-same-length-7 Inv-loop μ-loop
+same-length-7 c = omega arith
+
+same-length-8 : tie.Need-same-length-8 Inv-loop μ-loop
+same-length-8 c = omega arith
 
 returns-2 : tie.Need-returns-2 Inv-loop μ-loop
 returns-2 c = omega arith
@@ -65,12 +71,14 @@ turns-spec =
     same-length
     same-length-2
     same-length-3
+    same-length-4
     returns
     turn-requires
     sub-left
     loop-less
     loop-again
-    same-length-4
     same-length-5
     same-length-6
+    same-length-7
+    same-length-8
     returns-2)

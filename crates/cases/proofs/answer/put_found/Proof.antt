@@ -1,7 +1,7 @@
 -- `put_found` puts the words of its case.
 use native.Mathlib.Omega.{arith}
-use borrow.Author.Needs.{needs}
 use Rattle.cases.specs.Answer.{foundText}
+use borrow.Author.Needs.{needs}
 use Rattle.cases.proofs.answer.put_found.Statement.{statement}
 use Rattle.cases.proofs.answer.put_found.Tie as tie
 
@@ -35,26 +35,47 @@ slice-aggregate-put-text c = search needs
 put-text-requires : tie.Need-put-text-requires
 put-text-requires c κs = search needs
 
+enum-known-f-3 : tie.Need-enum-known-f-3
+enum-known-f-3 c = search needs
+
+put-image-requires : tie.Need-put-image-requires
+put-image-requires c κs = search needs
+
 same-length : tie.Need-same-length
 same-length c = search needs
 
 returns : tie.Need-returns
 unfolding foundText
-returns c = (rw (c .before .before .before .before .before .before .f .given .1) (c .before .before .put-field .ensures .0), omega (arith, c .before .before .put-field .ensures .1))
+returns c =
+    let put-field = c .before .before .put-field in
+    (rw (c .before .before .before .before .before .before .f .given .1) (put-field .ensures .0), omega (arith, put-field .ensures .1))
 
 same-length-2 : tie.Need-same-length-2
 same-length-2 c = search needs
 
 returns-2 : tie.Need-returns-2
 unfolding foundText
-returns-2 c = (rw (c .before .before .before .before .before .before .f2 .given .1) (c .before .before .put-field2 .ensures .0), omega (arith, c .before .before .put-field2 .ensures .1))
+returns-2 c =
+    let put-field2 = c .before .before .put-field2 in
+    (rw (c .before .before .before .before .before .before .f2 .given .1) (put-field2 .ensures .0), omega (arith, put-field2 .ensures .1))
 
 same-length-3 : tie.Need-same-length-3
 same-length-3 c = search needs
 
 returns-3 : tie.Need-returns-3
 unfolding foundText
-returns-3 c = (rw (c .before .before .before .before .before .enum-told .given .1) (c .before .before .put-text .ensures), omega (arith, c .before .before .put-text .ensures .to))
+returns-3 c =
+    let put-text = c .before .before .put-text in
+    (rw (c .before .before .before .before .before .enum-told .given .1) (put-text .ensures), omega (arith, put-text .ensures .to))
+
+same-length-4 : tie.Need-same-length-4
+same-length-4 c = search needs
+
+returns-4 : tie.Need-returns-4
+unfolding foundText
+returns-4 c =
+    let put-image = c .before .before .put-image in
+    (rw (c .before .before .before .before .before .f3 .given .1) (put-image .ensures .0), omega (arith, put-image .ensures .1))
 
 pub put-found-spec : {M : Type 1} → statement M
 put-found-spec =
@@ -70,9 +91,13 @@ put-found-spec =
     enum-told
     slice-aggregate-put-text
     put-text-requires
+    enum-known-f-3
+    put-image-requires
     same-length
     returns
     same-length-2
     returns-2
     same-length-3
-    returns-3)
+    returns-3
+    same-length-4
+    returns-4)

@@ -1,7 +1,7 @@
 -- `put_name` puts the name's letters.
 use native.Mathlib.Omega.{arith}
-use borrow.Author.Needs.{needs}
 use Rattle.cases.specs.Answer.{nameText}
+use borrow.Author.Needs.{needs}
 use Rattle.cases.proofs.answer.put_name.Statement.{statement}
 use Rattle.cases.proofs.answer.put_name.Tie as tie
 
@@ -32,26 +32,212 @@ slice-aggregate-put-text-3 c = search needs
 put-text-requires-3 : tie.Need-put-text-requires-3
 put-text-requires-3 c κs = search needs
 
+enum-told-4 : tie.Need-enum-told-4
+enum-told-4 c = search needs
+
+slice-aggregate-put-text-4 : tie.Need-slice-aggregate-put-text-4
+slice-aggregate-put-text-4 c = search needs
+
+put-text-requires-4 : tie.Need-put-text-requires-4
+put-text-requires-4 c κs = search needs
+
+enum-told-5 : tie.Need-enum-told-5
+enum-told-5 c = search needs
+
+slice-aggregate-put-text-5 : tie.Need-slice-aggregate-put-text-5
+slice-aggregate-put-text-5 c = search needs
+
+put-text-requires-5 : tie.Need-put-text-requires-5
+put-text-requires-5 c κs = search needs
+
+enum-told-6 : tie.Need-enum-told-6
+enum-told-6 c = search needs
+
+slice-aggregate-put-text-6 : tie.Need-slice-aggregate-put-text-6
+slice-aggregate-put-text-6 c = search needs
+
+put-text-requires-6 : tie.Need-put-text-requires-6
+put-text-requires-6 c κs = search needs
+
+enum-told-7 : tie.Need-enum-told-7
+enum-told-7 c = search needs
+
+slice-aggregate-put-text-7 : tie.Need-slice-aggregate-put-text-7
+slice-aggregate-put-text-7 c = search needs
+
+put-text-requires-7 : tie.Need-put-text-requires-7
+put-text-requires-7 c κs = search needs
+
+enum-told-8 : tie.Need-enum-told-8
+enum-told-8 c = search needs
+
+slice-aggregate-put-text-8 : tie.Need-slice-aggregate-put-text-8
+slice-aggregate-put-text-8 c = search needs
+
+put-text-requires-8 : tie.Need-put-text-requires-8
+put-text-requires-8 c κs = search needs
+
+enum-told-9 : tie.Need-enum-told-9
+enum-told-9 c = search needs
+
+slice-aggregate-put-text-9 : tie.Need-slice-aggregate-put-text-9
+slice-aggregate-put-text-9 c = search needs
+
+put-text-requires-9 : tie.Need-put-text-requires-9
+put-text-requires-9 c κs = search needs
+
+enum-told-10 : tie.Need-enum-told-10
+enum-told-10 c = search needs
+
+slice-aggregate-put-text-10 : tie.Need-slice-aggregate-put-text-10
+slice-aggregate-put-text-10 c = search needs
+
+put-text-requires-10 : tie.Need-put-text-requires-10
+put-text-requires-10 c κs = search needs
+
+enum-told-11 : tie.Need-enum-told-11
+enum-told-11 c = search needs
+
+slice-aggregate-put-text-11 : tie.Need-slice-aggregate-put-text-11
+slice-aggregate-put-text-11 c = search needs
+
+put-text-requires-11 : tie.Need-put-text-requires-11
+put-text-requires-11 c κs = search needs
+
+enum-told-12 : tie.Need-enum-told-12
+enum-told-12 c = search needs
+
+slice-aggregate-put-text-12 : tie.Need-slice-aggregate-put-text-12
+slice-aggregate-put-text-12 c = search needs
+
+put-text-requires-12 : tie.Need-put-text-requires-12
+put-text-requires-12 c κs = search needs
+
+enum-told-13 : tie.Need-enum-told-13
+enum-told-13 c = search needs
+
+slice-aggregate-put-text-13 : tie.Need-slice-aggregate-put-text-13
+slice-aggregate-put-text-13 c = search needs
+
+put-text-requires-13 : tie.Need-put-text-requires-13
+put-text-requires-13 c κs = search needs
+
 same-length : tie.Need-same-length
 same-length c = search needs
 
 returns : tie.Need-returns
 unfolding nameText
-returns c = (rw (c .before .before .before .before .before .enum-told .given .1) (c .before .before .put-text .ensures), omega (arith, c .before .before .put-text .ensures .to))
+returns c =
+    let put-text = c .before .before .put-text in
+    (rw (c .before .before .before .before .before .enum-told .given .1) (put-text .ensures), omega (arith, put-text .ensures .to))
 
 same-length-2 : tie.Need-same-length-2
 same-length-2 c = search needs
 
 returns-2 : tie.Need-returns-2
 unfolding nameText
-returns-2 c = (rw (c .before .before .before .before .before .enum-told2 .given .1) (c .before .before .put-text2 .ensures), omega (arith, c .before .before .put-text2 .ensures .to))
+returns-2 c =
+    let put-text2 = c .before .before .put-text2 in
+    (rw (c .before .before .before .before .before .enum-told2 .given .1) (put-text2 .ensures), omega (arith, put-text2 .ensures .to))
 
 same-length-3 : tie.Need-same-length-3
 same-length-3 c = search needs
 
 returns-3 : tie.Need-returns-3
 unfolding nameText
-returns-3 c = (rw (c .before .before .before .before .before .enum-told3 .given .1) (c .before .before .put-text3 .ensures), omega (arith, c .before .before .put-text3 .ensures .to))
+returns-3 c =
+    let put-text3 = c .before .before .put-text3 in
+    (rw (c .before .before .before .before .before .enum-told3 .given .1) (put-text3 .ensures), omega (arith, put-text3 .ensures .to))
+
+same-length-4 : tie.Need-same-length-4
+same-length-4 c = search needs
+
+returns-4 : tie.Need-returns-4
+unfolding nameText
+returns-4 c =
+    let put-text4 = c .before .before .put-text4 in
+    (rw (c .before .before .before .before .before .enum-told4 .given .1) (put-text4 .ensures), omega (arith, put-text4 .ensures .to))
+
+same-length-5 : tie.Need-same-length-5
+same-length-5 c = search needs
+
+returns-5 : tie.Need-returns-5
+unfolding nameText
+returns-5 c =
+    let put-text5 = c .before .before .put-text5 in
+    (rw (c .before .before .before .before .before .enum-told5 .given .1) (put-text5 .ensures), omega (arith, put-text5 .ensures .to))
+
+same-length-6 : tie.Need-same-length-6
+same-length-6 c = search needs
+
+returns-6 : tie.Need-returns-6
+unfolding nameText
+returns-6 c =
+    let put-text6 = c .before .before .put-text6 in
+    (rw (c .before .before .before .before .before .enum-told6 .given .1) (put-text6 .ensures), omega (arith, put-text6 .ensures .to))
+
+same-length-7 : tie.Need-same-length-7
+same-length-7 c = search needs
+
+returns-7 : tie.Need-returns-7
+unfolding nameText
+returns-7 c =
+    let put-text7 = c .before .before .put-text7 in
+    (rw (c .before .before .before .before .before .enum-told7 .given .1) (put-text7 .ensures), omega (arith, put-text7 .ensures .to))
+
+same-length-8 : tie.Need-same-length-8
+same-length-8 c = search needs
+
+returns-8 : tie.Need-returns-8
+unfolding nameText
+returns-8 c =
+    let put-text8 = c .before .before .put-text8 in
+    (rw (c .before .before .before .before .before .enum-told8 .given .1) (put-text8 .ensures), omega (arith, put-text8 .ensures .to))
+
+same-length-9 : tie.Need-same-length-9
+same-length-9 c = search needs
+
+returns-9 : tie.Need-returns-9
+unfolding nameText
+returns-9 c =
+    let put-text9 = c .before .before .put-text9 in
+    (rw (c .before .before .before .before .before .enum-told9 .given .1) (put-text9 .ensures), omega (arith, put-text9 .ensures .to))
+
+same-length-10 : tie.Need-same-length-10
+same-length-10 c = search needs
+
+returns-10 : tie.Need-returns-10
+unfolding nameText
+returns-10 c =
+    let put-text10 = c .before .before .put-text10 in
+    (rw (c .before .before .before .before .before .enum-told10 .given .1) (put-text10 .ensures), omega (arith, put-text10 .ensures .to))
+
+same-length-11 : tie.Need-same-length-11
+same-length-11 c = search needs
+
+returns-11 : tie.Need-returns-11
+unfolding nameText
+returns-11 c =
+    let put-text11 = c .before .before .put-text11 in
+    (rw (c .before .before .before .before .before .enum-told11 .given .1) (put-text11 .ensures), omega (arith, put-text11 .ensures .to))
+
+same-length-12 : tie.Need-same-length-12
+same-length-12 c = search needs
+
+returns-12 : tie.Need-returns-12
+unfolding nameText
+returns-12 c =
+    let put-text12 = c .before .before .put-text12 in
+    (rw (c .before .before .before .before .before .enum-told12 .given .1) (put-text12 .ensures), omega (arith, put-text12 .ensures .to))
+
+same-length-13 : tie.Need-same-length-13
+same-length-13 c = search needs
+
+returns-13 : tie.Need-returns-13
+unfolding nameText
+returns-13 c =
+    let put-text13 = c .before .before .put-text13 in
+    (rw (c .before .before .before .before .before .enum-told13 .given .1) (put-text13 .ensures), omega (arith, put-text13 .ensures .to))
 
 pub put-name-spec : {M : Type 1} → statement M
 put-name-spec =
@@ -66,9 +252,59 @@ put-name-spec =
     enum-told-3
     slice-aggregate-put-text-3
     put-text-requires-3
+    enum-told-4
+    slice-aggregate-put-text-4
+    put-text-requires-4
+    enum-told-5
+    slice-aggregate-put-text-5
+    put-text-requires-5
+    enum-told-6
+    slice-aggregate-put-text-6
+    put-text-requires-6
+    enum-told-7
+    slice-aggregate-put-text-7
+    put-text-requires-7
+    enum-told-8
+    slice-aggregate-put-text-8
+    put-text-requires-8
+    enum-told-9
+    slice-aggregate-put-text-9
+    put-text-requires-9
+    enum-told-10
+    slice-aggregate-put-text-10
+    put-text-requires-10
+    enum-told-11
+    slice-aggregate-put-text-11
+    put-text-requires-11
+    enum-told-12
+    slice-aggregate-put-text-12
+    put-text-requires-12
+    enum-told-13
+    slice-aggregate-put-text-13
+    put-text-requires-13
     same-length
     returns
     same-length-2
     returns-2
     same-length-3
-    returns-3)
+    returns-3
+    same-length-4
+    returns-4
+    same-length-5
+    returns-5
+    same-length-6
+    returns-6
+    same-length-7
+    returns-7
+    same-length-8
+    returns-8
+    same-length-9
+    returns-9
+    same-length-10
+    returns-10
+    same-length-11
+    returns-11
+    same-length-12
+    returns-12
+    same-length-13
+    returns-13)

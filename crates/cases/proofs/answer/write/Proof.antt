@@ -8,7 +8,7 @@ use Rattle.cases.proofs.answer.write.Tie as tie
 
 returns : tie.Need-returns
 unfolding answered
-returns c = rw (lt-ltb _ 96 (c .if1 .taken))
+returns c = rw (lt-ltb _ 132 (c .if1 .taken))
 
 put-name-requires : tie.Need-put-name-requires
 put-name-requires c κs = search needs

@@ -1,54 +1,21 @@
--- `read_fill` reads the row of `fill`, up to the line's end.
-use mathlib.Core.Path.{sym, _∙_}
-use lib.IntN.{ℤ}
+-- `read_fill` reads the row of `fill`.
+use Rattle.cases.proofs.Calls.{plain-is, fill-is}
 use borrow.Author.Needs.{needs}
-use Rattle.cases.specs.declared.call.Call.the-variants.{Fill}
-use Rattle.cases.proofs.Calls.{signs, is-whole, not-whole, fill-is}
 use Rattle.cases.proofs.call.read_fill.Statement.{statement}
 use Rattle.cases.proofs.call.read_fill.Tie as tie
 
-read-point-requires : tie.Need-read-point-requires
-read-point-requires c κs = search needs
+read-boxed-requires : tie.Need-read-boxed-requires
+read-boxed-requires c κs = search needs
 
-read-extent-requires : tie.Need-read-extent-requires
-read-extent-requires c κs = search needs
-
-read-color-requires : tie.Need-read-color-requires
-read-color-requires c κs = search needs
-
-read-clip-requires : tie.Need-read-clip-requires
-read-clip-requires c κs = search needs
-
-add-if1 : tie.Need-add-if1
-add-if1 c = search needs
+plain-requires : tie.Need-plain-requires
+plain-requires c κs = search needs
 
 returns : tie.Need-returns
 returns c =
-    let a = c .before .before .before .before .before .before .before .args in
-    let read-point = c .before .before .before .before .before .read-point in
-    let read-extent = c .before .before .before .before .read-extent in
-    let read-color = c .before .before .before .read-color in
-    let read-clip = c .before .before .read-clip in
-    sym (not-whole (a .line .now) (read-clip .result .next) _ (c .if1 .taken)) ∙ fill-is (a .line .now) (a .at) (read-point .result) (read-extent .result) (read-color .result) (read-clip .result) (read-point .ensures) (read-extent .ensures) (read-color .ensures) (read-clip .ensures)
-
-returns-2 : tie.Need-returns-2
-returns-2 c =
-    let a = c .before .before .before .before .before .before .before .before .before .before .args in
-    let read-point = c .before .before .before .before .before .before .before .before .read-point in
-    let read-extent = c .before .before .before .before .before .before .before .read-extent in
-    let read-color = c .before .before .before .before .before .before .read-color in
-    let read-clip = c .before .before .before .before .before .read-clip in
-    let struct-told = c .struct-told in
-    signs (λ (x y : ℤ). Fill x y (read-extent .result .w) (read-extent .result .h) (read-color .result .color) (read-clip .result .clip)) (read-point .result .x) (read-point .result .y) (record { sfits = struct-told .given .0 .1 }) (record { sfits = struct-told .given .1 .0 .1 }) ∙ sym (is-whole (a .line .now) (read-clip .result .next) _ (c .before .before .before .if1 .left)) ∙ fill-is (a .line .now) (a .at) (read-point .result) (read-extent .result) (read-color .result) (read-clip .result) (read-point .ensures) (read-extent .ensures) (read-color .ensures) (read-clip .ensures)
+    let a = c .before .before .before .before .args in
+    let plain = c .plain in
+    let read-boxed = c .before .before .read-boxed in
+    plain-is (a .line .now) (plain .result) _ (read-boxed .result .next) (plain .ensures) (fill-is (a .line .now) (a .at) (read-boxed .result) (read-boxed .ensures))
 
 pub read-fill-spec : {M : Type 1} → statement M
-read-fill-spec =
-    tie.close
-    (tie.spec
-    read-point-requires
-    read-extent-requires
-    read-color-requires
-    read-clip-requires
-    add-if1
-    returns
-    returns-2)
+read-fill-spec = tie.close (tie.spec read-boxed-requires plain-requires returns)

@@ -1,0 +1,2 @@
+-- What the faults of a file mean.
+pub mod Verdicts

@@ -1,0 +1,2 @@
+-- The parts of a file.
+pub mod Parts

@@ -1,0 +1,52 @@
+-- By the types.
+use mathlib.Core.Path.{refl}
+use native.Mathlib.Omega.{arith}
+use borrow.Author.Needs.{needs}
+use Rattle.lbmp.specs.File.{imageSize}
+use Rattle.lbmp.proofs.header.image_size.Statement.{statement}
+use Rattle.lbmp.proofs.header.image_size.Tie as tie
+
+enum-told : tie.Need-enum-told
+enum-told c = search needs
+
+mul-result : tie.Need-mul-result
+mul-result c = search needs
+
+enum-told-2 : tie.Need-enum-told-2
+enum-told-2 c = search needs
+
+enum-told-3 : tie.Need-enum-told-3
+enum-told-3 c = search needs
+
+enum-told-4 : tie.Need-enum-told-4
+enum-told-4 c = search needs
+
+returns : tie.Need-returns
+unfolding imageSize
+returns c = (rw (c .enum-told .given .1) refl, omega arith)
+
+returns-2 : tie.Need-returns-2
+unfolding imageSize
+returns-2 c = (rw (c .enum-told2 .given .1) refl, omega arith)
+
+returns-3 : tie.Need-returns-3
+unfolding imageSize
+returns-3 c = (rw (c .enum-told3 .given .1) refl, omega arith)
+
+returns-4 : tie.Need-returns-4
+unfolding imageSize
+returns-4 c = (rw (c .enum-told4 .given .1) refl, omega arith)
+
+pub image-size-spec : {M : Type 1} → statement M
+image-size-spec =
+    tie.close
+    (tie.spec
+    enum-told
+    mul-result
+    enum-told-2
+    enum-told-3
+    enum-told-4
+    returns
+    returns-2
+    returns-3
+    returns-4)

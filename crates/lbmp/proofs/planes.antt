@@ -1,0 +1,4 @@
+-- The laws of planes.
+pub mod Sizes
+pub mod Totals
+pub mod Bits
