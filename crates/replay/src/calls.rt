@@ -97,6 +97,50 @@ fn invert(v: Canvas, bytes: &mut [u8], p: Point, e: Extent, clip: Clip, out: &mu
     reply(drawn(Name::Invert, d, bytes), out)
 }
 
+fn copy(
+    v: Canvas,
+    bytes: &mut [u8],
+    to: Point,
+    from: Point,
+    e: Extent,
+    clip: Clip,
+    out: &mut [u8],
+) -> usize
+    ensures { λ r. ⌜ r ≤ length (now (out .entry)) ⌝ }
+{
+    let d = canvas::copy_area(v, bytes, to.x, to.y, from.x, from.y, e.w, e.h, clip);
+    reply(drawn(Name::Copy, d, bytes), out)
+}
+
+fn draw(
+    v: Canvas,
+    bytes: &mut [u8],
+    to: Point,
+    e: Extent,
+    source: Canvas,
+    image: &[u8],
+    from: Point,
+    clip: Clip,
+    out: &mut [u8],
+) -> usize
+    ensures { λ r. ⌜ r ≤ length (now (out .entry)) ⌝ }
+{
+    let d = canvas::draw(
+        v,
+        bytes,
+        to.x,
+        to.y,
+        e.w,
+        e.h,
+        source,
+        image,
+        from.x,
+        from.y,
+        clip,
+    );
+    reply(drawn(Name::Draw, d, bytes), out)
+}
+
 // What the reading of a file answers; the words are those that it wrote, or none.
 fn decoded(j: Judged, words: &[u32]) -> Answer {
     let hash = cases::hash_words(words);
@@ -186,20 +230,19 @@ pub(crate) fn run(v: Canvas, bytes: &mut [u8], c: Call, image: &[u8], out: &mut 
         Call::Rect(b) => rect(v, bytes, b, out),
         Call::Fill(b) => fill(v, bytes, b, out),
         Call::Invert { corner, size, clip } => invert(v, bytes, corner, size, clip, out),
-        // Until canvas copies and draws.
         Call::Copy {
-            to: _,
-            from: _,
-            size: _,
-            clip: _,
-        } => bad(out),
+            to,
+            from,
+            size,
+            clip,
+        } => copy(v, bytes, to, from, size, clip, out),
         Call::Draw {
-            corner: _,
-            size: _,
-            source: _,
-            from: _,
-            clip: _,
-        } => bad(out),
+            corner,
+            size,
+            source,
+            from,
+            clip,
+        } => draw(v, bytes, corner, size, source, image, from, clip, out),
         // Until canvas has these calls.
         Call::Line {
             from: _,
