@@ -41,6 +41,14 @@ uint32_t tuyrashka_invert_rect(uint32_t format, uint32_t width, uint32_t height,
                                int32_t clip_x, int32_t clip_y, uint32_t clip_w, uint32_t clip_h,
                                uint64_t *count);
 
+/* Copies a box of the canvas to another place on it, as if all were read before any is written, whatever xor_mode is.
+ * Written is what is on the canvas and inside the clip and comes from the canvas; *count is its number of pixels. */
+uint32_t tuyrashka_copy_area(uint32_t format, uint32_t width, uint32_t height, bool xor_mode,
+                             uint8_t *data, size_t data_len,
+                             int32_t dx, int32_t dy, int32_t sx, int32_t sy, uint32_t w, uint32_t h,
+                             int32_t clip_x, int32_t clip_y, uint32_t clip_w, uint32_t clip_h,
+                             uint64_t *count);
+
 /* Plots one point; *count is 1 if it is on the canvas and inside the clip, else 0. */
 uint32_t tuyrashka_put_pixel(uint32_t format, uint32_t width, uint32_t height, bool xor_mode,
                              uint8_t *data, size_t data_len,

@@ -34,6 +34,14 @@ unfolding formatOf
 exports v b b′ k x y cx cy cw ch w s n d c sx sy scx scy ec es en h =
     answers b′ (λ i j z. call v (k i j (color w) z) b) x y cx cy cw ch s n d sx sy scx scy es en (rw ec at h)
 
+-- a call with a source's point beside
+pub answers-from : (b′ : List ℕ) (g : ℤ → ℤ → ℤ → ℤ → Clip → Outcome) (x y sx sy cx cy : ℤ) (cw ch s n : ℕ) (d : Drawn)
+    → SFits w32 x → SFits w32 y → SFits w32 sx → SFits w32 sy → SFits w32 cx → SFits w32 cy → s ≡ statusOf d → n ≡ countOf d
+    → leaves d b′ ≡ g (toZ w32 (ofZ w32 x)) (toZ w32 (ofZ w32 y)) (toZ w32 (ofZ w32 sx)) (toZ w32 (ofZ w32 sy)) (clip (toZ w32 (ofZ w32 cx)) (toZ w32 (ofZ w32 cy)) cw ch)
+    → outcome s n b′ ≡ g x y sx sy (clip cx cy cw ch)
+answers-from b′ g x y sx sy cx cy cw ch s n d fx fy fsx fsy fcx fcy es en h =
+    answers b′ (λ i j z. g i j sx sy z) x y cx cy cw ch s n d fx fy fcx fcy es en (rw (toZ-ofZ w32 sx fsx, toZ-ofZ w32 sy fsy) at h)
+
 -- a pixel read
 pub shows : (v : Canvas) (b : List ℕ) (x y : ℤ) (p : Pixel) (t : Told) → SFits w32 x → SFits w32 y
     → t ≡ tells (reads p) → reads p ≡ pixelAt v b (toZ w32 (ofZ w32 x)) (toZ w32 (ofZ w32 y)) → t ≡ tells (pixelAt v b x y)

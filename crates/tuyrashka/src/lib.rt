@@ -1,7 +1,7 @@
 // What C and Rust link: the calls on numbers and slices, declared in include/tuyrashka.h.
 ghost use mathlib.Core.Path.{_≡_};
 ghost use Rattle.canvas.specs.Call.{putPixel, drawRect, fillRect, outcome, call};
-ghost use Rattle.canvas.specs.Areas.{invertRect};
+ghost use Rattle.canvas.specs.Areas.{copyArea, invertRect};
 ghost use Rattle.canvas.specs.Look.{pixelAt};
 ghost use Rattle.tuyrashka.specs.Exported.{canvas, clip, color, told, tells};
 
@@ -197,4 +197,42 @@ pub extern "C" fn tuyrashka_get_pixel(
             0
         }
     }
+}
+
+#[no_mangle]
+pub extern "C" fn tuyrashka_copy_area(
+    format: u32,
+    width: u32,
+    height: u32,
+    xor: bool,
+    bytes: &mut [u8],
+    dx: i32,
+    dy: i32,
+    sx: i32,
+    sy: i32,
+    w: u32,
+    h: u32,
+    cx: i32,
+    cy: i32,
+    cw: u32,
+    ch: u32,
+    count: &mut u64,
+) -> u32
+    ensures { λ r. ⌜ outcome r (now (count .exit)) (now (bytes .exit)) ≡ copyArea (canvas format width height xor) dx dy sx sy w h (clip cx cy cw ch) (now (bytes .entry)) ⌝ }
+{
+    let v = Canvas {
+        format: format,
+        width: width,
+        height: height,
+        xor: xor,
+    };
+    let c = Clip {
+        x: cx,
+        y: cy,
+        width: cw,
+        height: ch,
+    };
+    let d = canvas::copy_area(v, bytes, dx, dy, sx, sy, w, h, c);
+    *count = d.count();
+    d.status()
 }
