@@ -4,7 +4,8 @@
  * little-endian. Formats: 0 RGB332 (1 byte), 1 RGB565 (2), 2 RGB8, 3 ARGB, 4 ABGR (4 each).
  *
  * Each call returns 0, or 1 FORMAT (above 4), 2 SIZE (a side above 32,767), 3 LENGTH (data_len is not the exact byte
- * size), the lowest that holds; the bytes then stay as they were and *count is 0. A colour is a<<24 | r<<16 | g<<8 | b.
+ * size), 4 SOURCE (tuyrashka_draw: 1, 2 or 3 holds of the source), the lowest that holds; the bytes then stay as they
+ * were and *count is 0. A colour is a<<24 | r<<16 | g<<8 | b.
  * No pointer is null, also where data_len is 0, and what they point to does not overlap.
  */
 #ifndef TUYRASHKA_H
@@ -48,6 +49,17 @@ uint32_t tuyrashka_copy_area(uint32_t format, uint32_t width, uint32_t height, b
                              int32_t dx, int32_t dy, int32_t sx, int32_t sy, uint32_t w, uint32_t h,
                              int32_t clip_x, int32_t clip_y, uint32_t clip_w, uint32_t clip_h,
                              uint64_t *count);
+
+/* Blends a box of another image, which is only read, onto the canvas; *count is the number of pixels that come from the
+ * image and are on the canvas and inside the clip. */
+uint32_t tuyrashka_draw(uint32_t format, uint32_t width, uint32_t height, bool xor_mode,
+                        uint8_t *data, size_t data_len,
+                        int32_t dx, int32_t dy, uint32_t w, uint32_t h,
+                        uint32_t source_format, uint32_t source_width, uint32_t source_height,
+                        const uint8_t *source_data, size_t source_len,
+                        int32_t sx, int32_t sy,
+                        int32_t clip_x, int32_t clip_y, uint32_t clip_w, uint32_t clip_h,
+                        uint64_t *count);
 
 /* Plots one point; *count is 1 if it is on the canvas and inside the clip, else 0. */
 uint32_t tuyrashka_put_pixel(uint32_t format, uint32_t width, uint32_t height, bool xor_mode,

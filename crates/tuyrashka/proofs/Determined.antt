@@ -10,6 +10,7 @@ use Rattle.tuyrashka.proofs.tuyrashka_draw_rect.Reads as draw-rect
 use Rattle.tuyrashka.proofs.tuyrashka_fill_rect.Reads as fill-rect
 use Rattle.tuyrashka.proofs.tuyrashka_invert_rect.Reads as invert-rect
 use Rattle.tuyrashka.proofs.tuyrashka_copy_area.Reads as copy-area
+use Rattle.tuyrashka.proofs.tuyrashka_draw.Reads as draw
 use Rattle.tuyrashka.proofs.tuyrashka_get_pixel.Reads as get-pixel
 
 same-outcome : {s n s′ n′ : ℕ} {b b′ : List ℕ} → outcome s n b ≡ outcome s′ n′ b′ → (s ≡ s′) × ((n ≡ n′) × (b ≡ b′))
@@ -37,6 +38,10 @@ invert-rect-determined κs a s s' r r' p q = same-outcome (p ∙ sym q)
 pub copy-area-determined : (κs : _) (a : _) (s s' : _) (r r' : _) → copy-area.Post κs a r s → copy-area.Post κs a r' s'
     → (r ≡ r') × ((now (s .1 .1 .1 .1 .1 .1 .1 .1 .1 .1 .1 .1 .1 .1 .1 .0) ≡ now (s' .1 .1 .1 .1 .1 .1 .1 .1 .1 .1 .1 .1 .1 .1 .1 .0)) × (now (s .1 .1 .1 .1 .0) ≡ now (s' .1 .1 .1 .1 .0)))
 copy-area-determined κs a s s' r r' p q = same-outcome (p ∙ sym q)
+
+pub draw-determined : (κs : _) (a : _) (s s' : _) (r r' : _) → draw.Post κs a r s → draw.Post κs a r' s'
+    → (r ≡ r') × ((now (s .1 .1 .1 .1 .1 .1 .1 .1 .1 .1 .1 .1 .1 .1 .1 .1 .1 .1 .1 .0) ≡ now (s' .1 .1 .1 .1 .1 .1 .1 .1 .1 .1 .1 .1 .1 .1 .1 .1 .1 .1 .1 .0)) × (now (s .1 .1 .1 .1 .0) ≡ now (s' .1 .1 .1 .1 .0)))
+draw-determined κs a s s' r r' p q = same-outcome (p ∙ sym q)
 
 pub get-pixel-determined : (κs : _) (a : _) (s s' : _) (r r' : _) → get-pixel.Post κs a r s → get-pixel.Post κs a r' s'
     → (r ≡ r') × ((now (s .1 .1 .1 .1 .1 .1 .1 .0) ≡ now (s' .1 .1 .1 .1 .1 .1 .1 .0)) × (now (s .1 .1 .1 .1 .1 .1 .1 .1 .0) ≡ now (s' .1 .1 .1 .1 .1 .1 .1 .1 .0)))

@@ -1,5 +1,5 @@
 -- How C's numbers name a canvas, a clip and a colour, and how an answer reads in them.
-use mathlib.Core.Bool.{Bool}
+use mathlib.Core.Bool.{Bool, false}
 use Prim.Native.Nat.{ℕ}
 use lib.IntN.{ℤ}
 use Rattle.words.specs.declared.Color.{Color}
@@ -11,6 +11,10 @@ use Rattle.canvas.specs.Look.{Seen, nothing, seen, Reading}
 
 abbrev pub canvas : ℕ → ℕ → ℕ → Bool → Canvas
 canvas f w h x = record { format = f; width = w; height = h; xor = x }
+
+-- An image that is drawn from is a canvas too; its XOR switch says nothing.
+abbrev pub source : ℕ → ℕ → ℕ → Canvas
+source f w h = canvas f w h false
 
 abbrev pub clip : ℤ → ℤ → ℕ → ℕ → Clip
 clip x y w h = record { x = x; y = y; width = w; height = h }

@@ -1,9 +1,9 @@
 // What C and Rust link: the calls on numbers and slices, declared in include/tuyrashka.h.
 ghost use mathlib.Core.Path.{_≡_};
-ghost use Rattle.canvas.specs.Call.{putPixel, drawRect, fillRect, outcome, call};
+ghost use Rattle.canvas.specs.Call.{putPixel, drawRect, fillRect, draw, outcome, call};
 ghost use Rattle.canvas.specs.Areas.{copyArea, invertRect};
 ghost use Rattle.canvas.specs.Look.{pixelAt};
-ghost use Rattle.tuyrashka.specs.Exported.{canvas, clip, color, told, tells};
+ghost use Rattle.tuyrashka.specs.Exported.{canvas, source, clip, color, told, tells};
 
 mod bitmap;
 
@@ -233,6 +233,55 @@ pub extern "C" fn tuyrashka_copy_area(
         height: ch,
     };
     let d = canvas::copy_area(v, bytes, dx, dy, sx, sy, w, h, c);
+    *count = d.count();
+    d.status()
+}
+
+fn canvas_of(format: u32, width: u32, height: u32, xor: bool) -> Canvas
+    ensures { λ r. ⌜ r ≡ canvas format width height xor ⌝ }
+{
+    Canvas {
+        format: format,
+        width: width,
+        height: height,
+        xor: xor,
+    }
+}
+
+#[no_mangle]
+pub extern "C" fn tuyrashka_draw(
+    format: u32,
+    width: u32,
+    height: u32,
+    xor: bool,
+    bytes: &mut [u8],
+    dx: i32,
+    dy: i32,
+    w: u32,
+    h: u32,
+    source_format: u32,
+    source_width: u32,
+    source_height: u32,
+    image: &[u8],
+    sx: i32,
+    sy: i32,
+    cx: i32,
+    cy: i32,
+    cw: u32,
+    ch: u32,
+    count: &mut u64,
+) -> u32
+    ensures { λ r. ⌜ outcome r (now (count .exit)) (now (bytes .exit)) ≡ call (canvas format width height xor) (draw dx dy w h (source «source_format» «source_width» «source_height») (now (image .entry)) sx sy (clip cx cy cw ch)) (now (bytes .entry)) ⌝ }
+{
+    let v = canvas_of(format, width, height, xor);
+    let s = canvas_of(source_format, source_width, source_height, false);
+    let c = Clip {
+        x: cx,
+        y: cy,
+        width: cw,
+        height: ch,
+    };
+    let d = canvas::draw(v, bytes, dx, dy, w, h, s, image, sx, sy, c);
     *count = d.count();
     d.status()
 }
