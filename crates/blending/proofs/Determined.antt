@@ -9,6 +9,7 @@ use Rattle.blending.proofs.blend_rgb.Reads as blend-rgb
 use Rattle.blending.proofs.blend_bgr.Reads as blend-bgr
 use Rattle.blending.proofs.loops.read_colors.Reads as read-colors
 use Rattle.blending.proofs.loops.blend_words.Reads as blend-words
+use Rattle.blending.proofs.loops.store_words.Reads as store-words
 
 scaled-by-alpha-determined : (κs : _) (a : _) (s s' : _) (r r' : _) → scaled-by-alpha.Post κs a r s → scaled-by-alpha.Post κs a r' s' → r ≡ r'
 scaled-by-alpha-determined κs a s s' r r' p q = p ∙ sym q
@@ -34,3 +35,7 @@ read-colors-determined κs a s s' r r' p q = p ∙ sym q
 blend-words-determined :
     (κs : _) (a : _) (s s' : _) (r r' : _) → blend-words.Post κs a r s → blend-words.Post κs a r' s' → now (s .1 .1 .1 .0) ≡ now (s' .1 .1 .1 .0)
 blend-words-determined κs a s s' r r' p q = p ∙ sym q
+
+store-words-determined :
+    (κs : _) (a : _) (s s' : _) (r r' : _) → store-words.Post κs a r s → store-words.Post κs a r' s' → now (s .1 .1 .0) ≡ now (s' .1 .1 .0)
+store-words-determined κs a s s' r r' p q = p ∙ sym q

@@ -1,6 +1,6 @@
 -- The laws of blending: a word keeps to its format's range, an ink does what drawing with XOR on does, and drawings with XOR on
 -- commute and settle when made twice as plots do.
-use mathlib.Core.Path.{_≡_}
+use mathlib.Core.Path.{_≡_, refl, ap}
 use mathlib.Core.Bool.{Bool, true, false, cond, _||_}
 use Prim.Native.Nat.{ℕ, _*_, _≤_, _<_}
 use native.Mathlib.Nat.{mul-le-mul}
@@ -9,7 +9,7 @@ use lib.Dec.{eqb}
 use lib.Ieee.Casts.{toUnsigned-lt}
 use Rattle.words.specs.declared.Color.{Color}
 use Rattle.words.specs.Format.{Format, range}
-use Rattle.words.specs.Word.{color, toColor}
+use Rattle.words.specs.Word.{color, fromColor, toColor}
 use Rattle.words.specs.Ink.{inked, plotInk, settles}
 use Rattle.words.proofs.Laws.{Channels, fits, ink-is, plot-keeps, plot-swap, plot-twice}
 use Rattle.blending.specs.Blend.{part, scaled, mix, over, blendWord}
@@ -50,6 +50,13 @@ pub blend-keeps : (f : Format) (x : Bool) (c : Color) (w : ℕ) → Channels c �
 unfolding blendWord
 blend-keeps f true c w h l = plot-keeps f true (scaled c) w (scaled-channels c h) l
 blend-keeps f false c w h l = fits f (over c (toColor f w)) (over-channels c (toColor f w) h)
+
+-- ---- XOR off
+
+-- "alpha 255 stores"
+pub opaque-stores : (f : Format) (c : Color) (w : ℕ) → c .a ≡ 255 → blendWord f false c w ≡ fromColor f c
+unfolding blendWord over
+opaque-stores f c w e = ap (fromColor f) (rw e refl)
 
 -- ---- XOR on
 

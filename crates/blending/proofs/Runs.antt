@@ -9,9 +9,9 @@ use lib.Dec.{T, ltb, ltb→lt, nltb→le}
 use lib.ListN.{length, getD, take, set, length-set, length-map, length-take}
 use lib.Seq.{take-all}
 use Rattle.words.specs.Format.{Format, argb, range}
-use Rattle.words.specs.Word.{toColor, seen}
+use Rattle.words.specs.Word.{fromColor, toColor, seen}
 use Rattle.words.proofs.Reading.{read-channels, read-store}
-use Rattle.blending.specs.Loops.{read, argbOf, pairwise, draw, blended}
+use Rattle.blending.specs.Loops.{read, argbOf, pairwise, draw, blended, store, stored}
 use Rattle.blending.proofs.Laws.{blend-keeps}
 
 -- ---- words beside others
@@ -139,3 +139,14 @@ pub blended-keeps :
 unfolding blended
 blended-keeps f x cs ws =
     pairwise-keeps (draw f x) (λ (w : ℕ). w < range f) (λ c w l. blend-keeps f x (toColor argb c) w (read-channels argb c) l) cs ws
+
+-- ---- words stored
+
+pub stored-length : (f : Format) (cs ws : List ℕ) → length (stored f cs ws) ≡ length ws
+unfolding stored
+stored-length f cs ws = pairwise-length (store f) cs ws
+
+pub stored-at :
+    (f : Format) (cs ws : List ℕ) (i : ℕ) → i < length cs → i < length ws → getD (stored f cs ws) i 0 ≡ fromColor f (toColor argb (getD cs i 0))
+unfolding stored
+stored-at f cs ws i h k = pairwise-at (store f) cs ws i h k

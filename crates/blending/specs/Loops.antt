@@ -25,3 +25,10 @@ draw f x c w = blendWord f x (toColor argb c) w
 
 unfoldable pub blended : Format → Bool → List ℕ → List ℕ → List ℕ
 blended f x cs ws = pairwise (draw f x) cs ws
+
+-- "alpha 255 stores": the word of each ARGB word's colour, whatever stood there.
+abbrev pub store : Format → ℕ → ℕ → ℕ
+store f c w = fromColor f (toColor argb c)
+
+unfoldable pub stored : Format → List ℕ → List ℕ → List ℕ
+stored f cs ws = pairwise (store f) cs ws

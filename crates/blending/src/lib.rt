@@ -13,6 +13,7 @@ mod flip;
 pub mod loops;
 mod over;
 mod read;
+mod store;
 
 use words::Color;
 use words::Ink;

@@ -3,10 +3,11 @@ ghost use mathlib.Core.Path.{_≡_};
 ghost use mathlib.Core.Bool.{true, false};
 ghost use Prim.Native.Nat.{_≤_, min};
 ghost use Rattle.words.specs.Format.{formatOf};
-ghost use Rattle.blending.specs.Loops.{argbOf, blended};
+ghost use Rattle.blending.specs.Loops.{argbOf, blended, stored};
 use crate::flip;
 use crate::over;
 use crate::read;
+use crate::store;
 
 pub(crate) fn shorter(a: usize, b: usize) -> usize
     ensures { λ r. ⌜ r ≡ min a b ⌝ }
@@ -66,5 +67,20 @@ pub fn blend_words(format: u32, xor: bool, colors: &[u32], words: &mut [u32])
         flip_words(format, colors, words)
     } else {
         over_words(format, colors, words)
+    }
+}
+
+// Makes each word of a format the word of the colour of the ARGB word beside it: what `blend_words` does with XOR off
+// where alpha is 255.
+pub fn store_words(format: u32, colors: &[u32], words: &mut [u32])
+    requires { ⌜ format ≤ 4 ⌝ }
+    ensures { λ _. ⌜ now (words .exit) ≡ stored (formatOf format) (now (colors .entry)) (now (words .entry)) ⌝ }
+{
+    match format {
+        0 => store::stores332(colors, words),
+        1 => store::stores565(colors, words),
+        2 => store::stores_rgb8(colors, words),
+        3 => store::stores_argb(colors, words),
+        _ => store::stores_abgr(colors, words),
     }
 }

@@ -9,7 +9,7 @@ use Rattle.canvas.specs.declared.Canvas.{Canvas}
 use Rattle.canvas.specs.declared.Clip.{Clip}
 use Rattle.canvas.specs.Bytes.{form, loadAt}
 use Rattle.canvas.specs.Faults.{verdict}
-use Rattle.canvas.specs.Plot.{Plot, inks}
+use Rattle.canvas.specs.Plot.{inks}
 use Rattle.canvas.specs.Boxes.{fill, spots, sourceOf, shown}
 use Rattle.canvas.specs.Call.{Outcome, drawing}
 

@@ -6,7 +6,7 @@ use Prim.Native.Nat.{ℕ, zero, suc, _+_, _-_, _<_, _≤_}
 use lib.IntN.{ℤ, pos, negsuc, subℕ}
 use lib.ListN.{length, getD}
 use Rattle.words.specs.declared.Ink.{Ink}
-use Rattle.words.specs.Format.{Format, range}
+use Rattle.words.specs.Format.{Format, argb, range}
 use Rattle.words.specs.Word.{toColor, seen}
 use Rattle.words.specs.Ink.{inked}
 use Rattle.blending.specs.Blend.{blendWord}
@@ -143,3 +143,7 @@ pub record Shown (p s len m : ℕ) (c : ℤ) (k n from to : ℕ) : Type 0 where
 -- What drawing makes of the word at a pixel, with the source's pixel as far from sx and sy as the pixel is from x and y.
 abbrev pub overlaid : Canvas → Canvas → List ℕ → ℕ → ℕ → ℕ → ℕ → ℕ → ℕ → ℕ → ℕ
 overlaid v s image x y sx sy i j w = blendWord (form v) (v .xor) (toColor (form s) (loadAt s image (sx + (i - x)) (sy + (j - y)))) w
+
+-- Colours read from an image whose format keeps no alpha are solid.
+pub record Solid (format : ℕ) (cs : List ℕ) : Type 0 where
+  pub solid : format < 3 → (i : ℕ) → i < length cs → toColor argb (getD cs i 0) .a ≡ 255

@@ -2,11 +2,13 @@
 ghost use mathlib.Core.Path.{_≡_};
 ghost use Prim.Native.Nat.{_+_, _-_, _*_, _≤_, _<_};
 ghost use lib.ListN.{length};
+ghost use Rattle.blending.specs.Loops.{blended};
+ghost use Rattle.canvas.specs.Bytes.{form};
 ghost use Rattle.canvas.specs.Faults.{Sized, verdict, asSource};
 ghost use Rattle.canvas.specs.Plot.{paint};
 ghost use Rattle.canvas.specs.Call.{leaves, call};
 ghost use Rattle.canvas.specs.Call.{draw as drawCall};
-ghost use Rattle.canvas.specs.Walk.{run, marks, field, overlaid, Sourced};
+ghost use Rattle.canvas.specs.Walk.{run, marks, field, overlaid, Sourced, Solid};
 use crate::Canvas;
 use crate::Clip;
 use crate::Drawn;
@@ -19,6 +21,20 @@ use crate::faults::Verdict;
 use crate::span::Span;
 use crate::span::lift;
 use crate::span::shown_in;
+
+// What drawing colours leaves of words. Those of an image that keeps no alpha are stored.
+fn compose(canvas: Canvas, source: Canvas, cs: &[u32], ws: &mut [u32])
+    requires { ⌜ (canvas .format ≤ 4) × (Solid (source .format) (now cs)) ⌝ }
+    ensures { λ _. ⌜ now (ws .exit) ≡ blended (form canvas) (canvas .xor) (now (cs .entry)) (now (ws .entry)) ⌝ }
+{
+    if !canvas.xor {
+        if source.format < 3 {
+            blending::loops::store_words(canvas.format, cs, ws);
+            return;
+        }
+    }
+    blending::loops::blend_words(canvas.format, canvas.xor, cs, ws);
+}
 
 // As many pixels as the chunks hold, of the image's row sy from sx on, over row y from x on.
 fn draw_chunk(
@@ -39,7 +55,7 @@ fn draw_chunk(
     take(source, image, sy, sx, cs);
     blending::loops::read_colors(source.format, cs);
     take(canvas, b, y, x, ws);
-    blending::loops::blend_words(canvas.format, canvas.xor, cs, ws);
+    compose(canvas, source, cs, ws);
     lay(canvas, b, y, x, ws);
 }
 

@@ -16,9 +16,9 @@ use Rattle.words.specs.Ink.{inked}
 use Rattle.canvas.specs.declared.Canvas.{Canvas}
 use Rattle.canvas.specs.declared.Clip.{Clip}
 use Rattle.canvas.specs.declared.Tally.{Tally}
-use Rattle.canvas.specs.Clip.{both, within}
-use Rattle.canvas.specs.Plot.{Point, at, Plot, plot, inks, onCanvas, fate, Hit, hits}
-use Rattle.canvas.specs.Boxes.{select, side, each, fill, below, border, outline}
+use Rattle.canvas.specs.Clip.{within}
+use Rattle.canvas.specs.Plot.{Point, at, Plot, inks, onCanvas, Hit, hits}
+use Rattle.canvas.specs.Boxes.{side, each, fill, below, border, outline}
 use Rattle.canvas.specs.Walk.{lowered, run, Holds, Work, work, drawn, Keeps, Ready, Did, flat}
 use Rattle.canvas.proofs.span.Spans.{both-no, run-is, select-none}
 use Rattle.canvas.proofs.span.Differences.{sub-pos, sub-add}

@@ -1,7 +1,7 @@
 -- Copying by chunks and rows leaves what copying all at once would.
 use mathlib.Core.Path.{_≡_, refl, sym, ap, ap₂, _∙_}
 use mathlib.Core.Bool.{Bool, true, false, cond}
-use mathlib.Core.List.{List, [], _∷_, _++_, append-nil}
+use mathlib.Core.List.{List, [], _∷_, append-nil}
 use Prim.Native.Nat.{ℕ, zero, suc, _+_, _-_, _%_, _≤_, _<_}
 use native.Mathlib.Omega.{arith}
 use native.Mathlib.Decide.{ℕ-discrete, decLe}
@@ -13,15 +13,14 @@ use Rattle.words.specs.Format.{Format, rgb332, rgb565, rgb8, argb, abgr, none, 
 use Rattle.words.specs.Word.{fromColor, toColor, seen}
 use Rattle.words.proofs.Reading.{read-store}
 use Rattle.canvas.specs.declared.Canvas.{Canvas}
-use Rattle.canvas.specs.Bytes.{form, loadAt, On}
-use Rattle.canvas.specs.Faults.{Sized}
+use Rattle.canvas.specs.Bytes.{form, loadAt}
 use Rattle.canvas.specs.Plot.{Hit, paint}
 use Rattle.canvas.specs.Boxes.{each}
 use Rattle.canvas.specs.Walk.{lowered, run, mark, marks, field, laid, Taken, SeenAs, shifted, Sourced}
 use Rattle.canvas.specs.Areas.{copied}
 use Rattle.canvas.proofs.span.Sources.{source-at}
 use Rattle.canvas.proofs.bytes.Cells.{Bytes}
-use Rattle.canvas.proofs.bytes.Pixels.{load-lt, sized-length}
+use Rattle.canvas.proofs.bytes.Pixels.{load-lt}
 use Rattle.canvas.proofs.plot.Orders.{Screen, All, By}
 use Rattle.canvas.proofs.rows.Rows.{paint-length}
 use Rattle.canvas.proofs.rows.Parts.{join-after, join-before, marks-all, field-all, marks-alike, field-alike, Elsewhere, load-elsewhere}

@@ -1,28 +1,25 @@
 -- Drawing by chunks and rows leaves what drawing pixel by pixel would.
 use mathlib.Core.Path.{_≡_, refl, sym, ap, ap₂, _∙_}
-use mathlib.Core.Bool.{Bool, true, false}
+use mathlib.Core.Bool.{true, false}
 use mathlib.Core.List.{List, [], _∷_, _++_}
 use Prim.Native.Nat.{ℕ, zero, suc, _+_, _-_, _≤_, _<_}
 use native.Mathlib.Omega.{arith}
-use lib.IntN.{ℤ}
 use lib.ListN.{length, getD}
 use Rattle.words.specs.declared.Color.{Color}
-use Rattle.words.specs.Format.{Format, argb}
+use Rattle.words.specs.Format.{Format, formatOf, argb}
 use Rattle.words.specs.Word.{fromColor, toColor}
 use Rattle.words.specs.Ink.{keepsAlpha}
-use Rattle.words.proofs.Laws.{Channels}
 use Rattle.words.proofs.Reading.{read-channels, store-read}
 use Rattle.blending.specs.Blend.{blendWord}
-use Rattle.blending.specs.Loops.{argbOf, blended}
+use Rattle.blending.specs.Loops.{argbOf, pairwise, blended, stored}
+use Rattle.blending.proofs.Laws.{opaque-stores}
 use Rattle.blending.proofs.Runs.{argb-at, argb-length, blended-at, blended-length}
 use Rattle.canvas.specs.declared.Canvas.{Canvas}
-use Rattle.canvas.specs.declared.faults.Verdict.{Verdict}
-use Rattle.canvas.specs.declared.faults.Verdict.the-variants.{Sound, Faulty}
-use Rattle.canvas.specs.Bytes.{form, loadAt, storeAt, On}
-use Rattle.canvas.specs.Plot.{Plot, plot, Dot, dip, Hit, hit, touch, paint}
+use Rattle.canvas.specs.Bytes.{form, loadAt, storeAt}
+use Rattle.canvas.specs.Plot.{Plot, plot, Dot, dip, Hit, touch, paint}
 use Rattle.canvas.specs.Boxes.{each, spots, picture}
 use Rattle.canvas.specs.Call.{sourceColor}
-use Rattle.canvas.specs.Walk.{lowered, run, mark, marks, field, laid, Taken, overlaid, Sourced}
+use Rattle.canvas.specs.Walk.{lowered, run, mark, marks, field, laid, Taken, overlaid, Sourced, Solid}
 use Rattle.canvas.proofs.bytes.Pixels.{load-other}
 use Rattle.canvas.proofs.span.Sources.{source-at}
 use Rattle.canvas.proofs.rows.Rows.{paint-length}
@@ -72,6 +69,32 @@ chunk-draws v s b b′ image y x sy sx n cs cs′ ws ws′ hy hx lc lw tc ec tw 
         ∙ ap₂ (λ (c : Color) (a : ℕ). blendWord (form v) (v .xor) c a)
         (color (k - x) i ∙ ap (λ (t : ℕ). toColor (form s) (loadAt s image (sx + (k - x)) t)) (sym z))
         (tw .word (k - x) (omega arith) ∙ ap (λ (t : ℕ). loadAt v b t y) u)
+
+-- ---- an image that keeps no alpha
+
+solid-alpha : (n : ℕ) → n < 3 → (w : ℕ) → toColor (formatOf n) w .a ≡ 255
+unfolding formatOf toColor
+solid-alpha zero l w = refl
+solid-alpha (suc zero) l w = refl
+solid-alpha (suc (suc zero)) l w = refl
+solid-alpha (suc (suc (suc n))) l w = absurd (omega arith)
+
+pub solid-read : (s : Canvas) (cs cs′ : List ℕ) → cs′ ≡ argbOf (form s) cs → Solid (s .format) cs′
+solid-read s cs cs′ e = record { solid = λ l i m. alpha l i (omega (arith, ap length e, argb-length (form s) cs)) }
+  where
+    alpha : s .format < 3 → (i : ℕ) → i < length cs → toColor argb (getD cs′ i 0) .a ≡ 255
+    alpha l i m =
+        ap (λ (c : List ℕ). toColor argb (getD c i 0) .a) e
+        ∙ ap (λ (w : ℕ). toColor argb w .a) (argb-at (form s) cs i m)
+        ∙ ap (λ (c : Color). c .a) (store-read argb (toColor (form s) (getD cs i 0)) (read-channels (form s) (getD cs i 0)) argb-keeps)
+        ∙ solid-alpha (s .format) l (getD cs i 0)
+
+pub solid-stores : (f : Format) (cs ws : List ℕ) → ((i : ℕ) → i < length cs → toColor argb (getD cs i 0) .a ≡ 255) → stored f cs ws ≡ blended f false cs ws
+unfolding stored blended pairwise
+solid-stores f [] ws h = refl
+solid-stores f (c ∷ cs) [] h = refl
+solid-stores f (c ∷ cs) (w ∷ ws) h =
+    ap₂ (λ (a : ℕ) (l : List ℕ). a ∷ l) (sym (opaque-stores f (toColor argb c) w (h 0 (omega arith)))) (solid-stores f cs ws (λ i l. h (suc i) (omega arith)))
 
 -- ---- a row, and a box
 

@@ -21,7 +21,7 @@ use Rattle.canvas.specs.Bytes.{form}
 use Rattle.canvas.specs.Faults.{orElse, verdict, asSource, Sized}
 use Rattle.canvas.specs.Plot.{Plot, plot, Point, inks, tint, dip, hits, paint}
 use Rattle.canvas.specs.Call.{outcome, statusOf, countOf, leaves, drawing}
-use Rattle.canvas.specs.Walk.{Work, work, drawn, Keeps, Did}
+use Rattle.canvas.specs.Walk.{Work, work, Keeps, Did}
 use Rattle.canvas.proofs.bytes.Cells.{Bytes}
 use Rattle.canvas.proofs.plot.Paints.{drawn-is, drawn-ink}
 use Rattle.canvas.proofs.faults.Verdicts.{sized}

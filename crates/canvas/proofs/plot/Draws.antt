@@ -3,16 +3,13 @@ use mathlib.Core.Path.{_≡_, refl, sym, ap, _∙_}
 use mathlib.Core.List.{List, [], _∷_, _++_}
 use Prim.Native.Nat.{ℕ, suc, _+_, _-_, _≤_, _<_}
 use native.Mathlib.Omega.{arith}
-use native.Mathlib.Nat.{add-zero}
-use native.Mathlib.Numerals.{add-one}
 use lib.ListN.{length}
 use Rattle.canvas.specs.declared.Canvas.{Canvas}
 use Rattle.canvas.specs.declared.Clip.{Clip}
 use Rattle.canvas.specs.declared.Tally.{Tally}
 use Rattle.canvas.specs.Faults.{Sized}
 use Rattle.canvas.specs.Plot.{Plot, Fate, landed, outside, clipped, fate, Hit, hitOf, touch}
-use Rattle.canvas.specs.Boxes.{each}
-use Rattle.canvas.specs.Walk.{run, plus, Work, work, act, drawn, Fits, Ready, Did}
+use Rattle.canvas.specs.Walk.{plus, Work, work, act, drawn, Fits, Ready, Did}
 use Rattle.canvas.proofs.bytes.Pixels.{length-store, sized-length}
 
 -- ---- one plot

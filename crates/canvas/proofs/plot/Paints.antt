@@ -1,24 +1,21 @@
 -- What plots leave is the paint of the landed ones, and their number; inks that agree on words paint alike; and what is
 -- no pixel's is unchanged.
 use mathlib.Core.Path.{_≡_, refl, ap, ap₂, _∙_}
-use mathlib.Core.Bool.{Bool, true, false, cond}
 use mathlib.Core.List.{List, [], _∷_}
-use Prim.Native.Nat.{ℕ, suc, _+_, _≤_, _<_}
+use Prim.Native.Nat.{ℕ, suc, _+_, _<_}
 use native.Mathlib.Omega.{arith}
-use lib.IntN.{pos, natAbs}
+use lib.IntN.{natAbs}
 use lib.ListN.{length}
-use Rattle.words.specs.declared.Ink.{Ink}
 use Rattle.words.specs.Format.{range}
-use Rattle.words.specs.Ink.{inked}
 use Rattle.canvas.specs.declared.Canvas.{Canvas}
 use Rattle.canvas.specs.declared.Clip.{Clip}
 use Rattle.canvas.specs.declared.Tally.{Tally}
 use Rattle.canvas.specs.Bytes.{Cell, get, form, loadAt, storeAt, On}
 use Rattle.canvas.specs.Plot.{Point, Plot, plot, inks, Fate, landed, outside, clipped, fate, Hit, hit, hitOf, keep, hits, touch, paint}
-use Rattle.canvas.specs.Walk.{plus, Work, work, act, drawn}
+use Rattle.canvas.specs.Walk.{Work, work, act, drawn}
 use Rattle.canvas.proofs.bytes.Cells.{Bytes}
 use Rattle.canvas.proofs.plot.Fates.{lands-on}
-use Rattle.canvas.proofs.bytes.Pixels.{bytes-store, load-lt, store-load, Free, get-store}
+use Rattle.canvas.proofs.bytes.Pixels.{bytes-store, load-lt, Free, get-store}
 
 abbrev tally : ℕ → Tally
 tally n = record { landed = n }

@@ -1,6 +1,6 @@
 -- Rows and boxes of hits: the invariant of every loop over them, and how many they are.
-use mathlib.Core.Path.{_≡_, refl, sym, ap, ap₂, _∙_}
-use mathlib.Core.List.{List, [], _∷_, _++_}
+use mathlib.Core.Path.{_≡_, refl, sym, ap, _∙_}
+use mathlib.Core.List.{List, [], _∷_}
 use Prim.Native.Nat.{ℕ, zero, suc, _+_, _*_, _-_, _≤_, _<_}
 use native.Mathlib.Omega.{arith}
 use native.Mathlib.Nat.{suc-mul, zero-mul}
@@ -9,7 +9,7 @@ use lib.ListN.{length, length-append}
 use Rattle.canvas.specs.declared.Canvas.{Canvas}
 use Rattle.canvas.specs.Bytes.{size, On}
 use Rattle.canvas.specs.Faults.{Sized}
-use Rattle.canvas.specs.Plot.{Hit, hit, touch, paint}
+use Rattle.canvas.specs.Plot.{Hit, touch, paint}
 use Rattle.canvas.specs.Boxes.{each}
 use Rattle.canvas.specs.Walk.{run, mark, marks, field, flat, Touched}
 use Rattle.canvas.proofs.bytes.Pixels.{sized-length}

@@ -1,6 +1,6 @@
 -- The columns whose source is on a source's side, from lifted starts.
-use mathlib.Core.Path.{_≡_, refl, sym, ap, _∙_}
-use mathlib.Core.Bool.{Bool, true, false}
+use mathlib.Core.Path.{_≡_, sym, ap, _∙_}
+use mathlib.Core.Bool.{false}
 use Prim.Native.Nat.{ℕ, suc, _+_, _-_, _≤_, _<_, min, max}
 use native.Mathlib.Omega.{arith}
 use native.Mathlib.Decide.{decLe}
@@ -8,7 +8,7 @@ use lib.IntN.{ℤ, pos, negsuc, subℕ, natAbs, _+ℤ_, _-ℤ_}
 use mir.Syntax.{w32}
 use mir.Val.{SFits, toZ, ofZ}
 use mir.ValLaws.{toZ-ofZ}
-use Rattle.canvas.specs.Clip.{both, within}
+use Rattle.canvas.specs.Clip.{within}
 use Rattle.canvas.specs.Boxes.{sourceOf}
 use Rattle.canvas.specs.Walk.{lowered, Holds, Cut, Sourced, Shown}
 use Rattle.canvas.proofs.span.Spans.{holds-both, span-holds}

@@ -1,6 +1,5 @@
 -- The word is read, inked and put back.
 use mathlib.Core.Path.{_∙_, ap}
-use Prim.Native.Nat.{ℕ}
 use Rattle.words.specs.Ink.{inked}
 use Rattle.canvas.specs.Bytes.{store, cells}
 use borrow.Author.Needs.{needs}

@@ -6,7 +6,7 @@ use mathlib.Core.List.{List}
 use mir.Syntax.{w32}
 use mir.Val.{toZ, ofZ}
 use mir.ValLaws.{toZ-fits, ofZ-fits}
-use Prim.Native.Nat.{ℕ, _+_, _-_}
+use Prim.Native.Nat.{ℕ, _-_}
 use Rattle.canvas.specs.Plot.{Hit, paint}
 use Rattle.canvas.specs.Boxes.{spots, shown}
 use Rattle.canvas.specs.Areas.{copied, copyArea}

@@ -1,7 +1,7 @@
 -- What is left of the rows leads to the same end as all of them.
 use native.Mathlib.Omega.{arith}
 use mathlib.Core.Path.{_≡_, refl, sym, _∙_}
-use Prim.Native.Nat.{_+_, _-_, _≤_}
+use Prim.Native.Nat.{_-_, _≤_}
 use lib.ListN.{length}
 use Rattle.canvas.specs.Walk.{run, marks, field, overlaid}
 use Rattle.canvas.proofs.bytes.Pixels.{sized-length}

@@ -6,7 +6,6 @@ use Prim.Native.Nat.{ℕ, _+_, _-_, _*_}
 use Rattle.canvas.specs.Walk.{overlaid}
 use Rattle.canvas.proofs.bytes.Places.{area-le}
 use Rattle.canvas.proofs.copy.Moves.{none-across, none-down, paint-nothing, less-than}
-use borrow.Author.Needs.{needs}
 use Rattle.canvas.proofs.pictures.draw_in.Statement.{statement}
 use Rattle.canvas.proofs.pictures.draw_in.Tie as tie
 

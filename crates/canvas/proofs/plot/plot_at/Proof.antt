@@ -1,5 +1,4 @@
 -- Four tests put a plot outside the canvas, and one outside the clip; what passes them is a hit.
-use native.Mathlib.Omega.{arith}
 use mathlib.Core.Path.{refl, sym, ap₂, _∙_}
 use mathlib.Core.Bool.{true, false}
 use Prim.Native.Nat.{_-_}

@@ -1,6 +1,5 @@
 -- The largest start and the smallest end, held to the side.
 use native.Mathlib.Omega.{arith}
-use mathlib.Core.Path.{refl}
 use mir.Syntax.{w32}
 use mir.Val.{toZ, ofZ}
 use mir.ValLaws.{toZ-fits, ofZ-fits}
