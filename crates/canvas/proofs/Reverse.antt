@@ -1,8 +1,8 @@
 -- Calls with XOR on, made one after the other: any order leaves the same bytes and gives each its answer, and made again,
 -- in any order, they are taken away. Proved over the laws of words and of bytes; a new call adds a case of `Colored`, `shade` and `shaded`.
-use mathlib.Core.Path.{_≡_, refl, sym, ap, ap₂, _∙_, subst}
+use mathlib.Core.Path.{_≡_, refl, sym, ap, ap₂, _∙_}
 use mathlib.Core.Bool.{Bool, true, false, cond, _||_}
-use mathlib.Core.List.{List, [], _∷_, _++_, map, append-assoc, List·Permᴰ, List·Permᴰ·nil, List·Permᴰ·cons, List·Permᴰ·swap, List·Permᴰ·trans, Permᴰ·append-right, Permᴰ·append-left, List·Permᴰ·append-comm, Permᴰ·refl}
+use mathlib.Core.List.{List, [], _∷_, _++_, map, append-assoc, List·Permᴰ, List·Permᴰ·nil, List·Permᴰ·cons, List·Permᴰ·swap, List·Permᴰ·trans, Permᴰ·append-right, Permᴰ·append-left, List·Permᴰ·append-comm}
 use Prim.Native.Nat.{ℕ}
 use lib.Dec.{eqb}
 use lib.ListN.{length}
@@ -28,7 +28,7 @@ use Rattle.canvas.proofs.bytes.Cells.{Bytes}
 use Rattle.canvas.proofs.faults.Verdicts.{sized}
 use Rattle.canvas.proofs.plot.Fates.{lands-on}
 use Rattle.canvas.proofs.rows.Rows.{paint-length}
-use Rattle.canvas.proofs.plot.Orders.{Screen, Family, All, none, all-append, keep-all, paint-screen, paint-append, paint-perm, doubled, paint-back, paint-none}
+use Rattle.canvas.proofs.plot.Orders.{perm-of, Screen, Family, All, none, all-append, keep-all, paint-screen, paint-append, paint-perm, doubled, paint-back, paint-none}
 
 -- calls whose colours are of bytes, as every caller's are
 abbrev pub Colored : Call → Type 0
@@ -150,9 +150,6 @@ hits-append v [] ls = refl
 hits-append v (k ∷ ks) ls =
     ap (λ (l : List Hit). landing v k (dots v k) ++ l) (hits-append v ks ls)
     ∙ sym (append-assoc (landing v k (dots v k)) (all-hits v ks) (all-hits v ls))
-
-perm-of : {l m : List Hit} → l ≡ m → List·Permᴰ l m
-perm-of {l} e = subst (List·Permᴰ l) e (Permᴰ·refl l)
 
 hits-perm : (v : Canvas) {ks ls : List Call} → List·Permᴰ ks ls → List·Permᴰ (all-hits v ks) (all-hits v ls)
 unfolding all-hits

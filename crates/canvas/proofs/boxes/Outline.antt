@@ -1,7 +1,7 @@
 -- An outline's plots land as those of four fills do, in another order.
-use mathlib.Core.Path.{_≡_, refl, sym, ap, ap₂, _∙_, subst}
+use mathlib.Core.Path.{_≡_, refl, sym, ap, ap₂, _∙_}
 use mathlib.Core.Bool.{Bool, true, false, cond, _||_}
-use mathlib.Core.List.{List, [], _∷_, _++_, append-nil, append-assoc, List·Permᴰ, List·Permᴰ·nil, List·Permᴰ·cons, List·Permᴰ·swap, List·Permᴰ·trans, Permᴰ·append-right, Permᴰ·append-left, List·Permᴰ·append-comm, Permᴰ·refl}
+use mathlib.Core.List.{List, [], _∷_, _++_, append-nil, append-assoc, List·Permᴰ, List·Permᴰ·nil, List·Permᴰ·cons, List·Permᴰ·swap, List·Permᴰ·trans, Permᴰ·append-right, Permᴰ·append-left, List·Permᴰ·append-comm}
 use Prim.Native.Nat.{ℕ, zero, suc, _+_, _-_, _≤_, _<_, min}
 use native.Mathlib.Omega.{arith}
 use native.Mathlib.Nat.{zero-add}
@@ -24,7 +24,8 @@ use Rattle.canvas.proofs.span.Spans.{both-no, run-is, select-none}
 use Rattle.canvas.proofs.span.Differences.{sub-pos, sub-add}
 use Rattle.canvas.proofs.plot.Fates.{off-across, off-down, is-outside, lands-on}
 use Rattle.canvas.proofs.plot.Paints.{drawn-is}
-use Rattle.canvas.proofs.plot.Orders.{Screen, Plots, no-more, and, hits-all, By, by-pixel, paint-perm}
+use Rattle.canvas.proofs.plot.Orders.{perm-of, Screen, Plots, no-more, and, hits-all, By, by-pixel, paint-perm}
+use Rattle.canvas.proofs.rows.Rows.{each-same}
 use Rattle.canvas.proofs.boxes.Boxes.{inks-append, inks-each, hits-append, hits-each, select-le, each-le, fill-le}
 
 -- ---- a span of one
@@ -134,9 +135,6 @@ module _ (v : Canvas) (c : Clip) (f : ℕ → ℕ) where
 
   -- ---- two of each number are all of the first and all of the second
 
-  perm-of : {l m : List Hit} → l ≡ m → List·Permᴰ l m
-  perm-of {l} e = subst (List·Permᴰ l) e (Permᴰ·refl l)
-
   each-both : (g h : ℕ → List Hit) (xs : List ℕ) → List·Permᴰ (each (λ x. g x ++ h x) xs) (each g xs ++ each h xs)
   unfolding each
   each-both g h [] = List·Permᴰ·nil
@@ -152,15 +150,10 @@ module _ (v : Canvas) (c : Clip) (f : ℕ → ℕ) where
 
   -- ---- the border
 
-  each-alike : (g h : ℕ → List Hit) (xs : List ℕ) → ((x : ℕ) → g x ≡ h x) → each g xs ≡ each h xs
-  unfolding each
-  each-alike g h [] e = refl
-  each-alike g h (x ∷ xs) e = ap₂ (λ (l m : List Hit). l ++ m) (e x) (each-alike g h xs e)
-
   -- points of each number, and points that may come with them
   pairs-land : (p : ℕ → Point) (q : ℕ → List Point) (xs : List ℕ) → List·Permᴰ (land (each (λ k. p k ∷ q k) xs)) (land (each (λ k. p k ∷ []) xs) ++ each (λ k. land (q k)) xs)
   pairs-land p q xs =
-      List·Permᴰ·trans (perm-of (land-each (λ k. p k ∷ q k) xs ∙ each-alike _ _ xs (λ k. land-append (p k ∷ []) (q k))))
+      List·Permᴰ·trans (perm-of (land-each (λ k. p k ∷ q k) xs ∙ each-same _ _ xs (λ k. land-append (p k ∷ []) (q k))))
       (List·Permᴰ·trans (each-both _ _ xs) (perm-of (ap (λ (l : List Hit). l ++ each (λ k. land (q k)) xs) (sym (land-each (λ k. p k ∷ []) xs)))))
 
   land-four : (a b d e : List Plot) → hits v c (a ++ (b ++ (d ++ e))) ≡ (hits v c a ++ hits v c b) ++ (hits v c d ++ hits v c e)

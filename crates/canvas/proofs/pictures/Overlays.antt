@@ -22,7 +22,7 @@ use Rattle.canvas.specs.Call.{sourceColor}
 use Rattle.canvas.specs.Walk.{lowered, run, mark, marks, field, laid, Taken, overlaid, Sourced, Solid}
 use Rattle.canvas.proofs.bytes.Pixels.{load-other}
 use Rattle.canvas.proofs.span.Sources.{source-at}
-use Rattle.canvas.proofs.rows.Rows.{paint-length}
+use Rattle.canvas.proofs.rows.Rows.{paint-length, each-same}
 use Rattle.canvas.proofs.rows.Parts.{join-after, marks-alike, field-alike}
 
 -- ---- a row whose words were worked out before any was written
@@ -139,11 +139,6 @@ row-over v s image b b′ x y0 sx sy n y l e = e ∙ ap (λ (hs : List Hit). pai
         ap made z
 
 -- ---- what the definition plots
-
-each-same : {A : Type 0} (g h : ℕ → List A) (xs : List ℕ) → ((x : ℕ) → g x ≡ h x) → each g xs ≡ each h xs
-unfolding each
-each-same g h [] e = refl
-each-same g h (x ∷ xs) e = ap₂ (λ (l m : List _). l ++ m) (e x) (each-same g h xs e)
 
 dip-append : (g : Color → ℕ → ℕ) (ds es : List Dot) → dip g (ds ++ es) ≡ dip g ds ++ dip g es
 unfolding dip

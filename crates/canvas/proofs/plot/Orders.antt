@@ -1,6 +1,6 @@
 -- Hits whose inks commute may be painted in any order; and what a second pass leaves.
 use mathlib.Core.Path.{_≡_, refl, sym, ap, ap₂, _∙_, subst}
-use mathlib.Core.List.{List, [], _∷_, _++_, map, List·Permᴰ, List·Permᴰ·nil, List·Permᴰ·cons, List·Permᴰ·swap, List·Permᴰ·trans}
+use mathlib.Core.List.{List, [], _∷_, _++_, map, List·Permᴰ, List·Permᴰ·nil, List·Permᴰ·cons, List·Permᴰ·swap, List·Permᴰ·trans, Permᴰ·refl}
 use Prim.Native.Nat.{ℕ, _<_}
 use native.Mathlib.Decide.{ℕ-discrete}
 use lib.ListN.{length}
@@ -12,6 +12,10 @@ use Rattle.canvas.specs.Plot.{Plot, Fate, landed, outside, clipped, fate
 use Rattle.canvas.proofs.bytes.Cells.{Bytes}
 use Rattle.canvas.proofs.bytes.Pixels.{Other, length-store, load-lt, store-load, load-store, store-store, load-other, store-comm}
 use Rattle.canvas.proofs.plot.Paints.{touch-ink, touch-bytes}
+
+-- equal lists are permutations
+pub perm-of : {l m : List Hit} → l ≡ m → List·Permᴰ l m
+perm-of {l} e = subst (List·Permᴰ l) e (Permᴰ·refl l)
 
 -- the bytes of a canvas, of its exact size
 pub record Screen (v : Canvas) (b : List ℕ) : Type 0 where

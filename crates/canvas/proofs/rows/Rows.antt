@@ -1,6 +1,6 @@
 -- Rows and boxes of hits: the invariant of every loop over them, and how many they are.
-use mathlib.Core.Path.{_≡_, refl, sym, ap, _∙_}
-use mathlib.Core.List.{List, [], _∷_}
+use mathlib.Core.Path.{_≡_, refl, sym, ap, ap₂, _∙_}
+use mathlib.Core.List.{List, [], _∷_, _++_}
 use Prim.Native.Nat.{ℕ, zero, suc, _+_, _*_, _-_, _≤_, _<_}
 use native.Mathlib.Omega.{arith}
 use native.Mathlib.Nat.{suc-mul, zero-mul}
@@ -65,6 +65,13 @@ module _ (v : Canvas) (b : List ℕ) (x y o s : ℕ) (r : Sized v b) (p : On v x
   pub row-touch : (f : ℕ → ℕ) (b′ : List ℕ) → Touched s o f b b′ → b′ ≡ paint v (mark (flat f) y x) b
   unfolding mark paint
   row-touch f b′ t = touch-is v b x y o r p (rw z e) s z b′ f _ _ refl refl (t .same)
+
+-- ---- what each number gives, alike for each
+
+pub each-same : {A : Type 0} (g h : ℕ → List A) (xs : List ℕ) → ((x : ℕ) → g x ≡ h x) → each g xs ≡ each h xs
+unfolding each
+each-same g h [] e = refl
+each-same g h (x ∷ xs) e = ap₂ (λ (l m : List _). l ++ m) (e x) (each-same g h xs e)
 
 -- ---- how many
 
