@@ -1,4 +1,5 @@
 pub mod Range
 pub mod Signs
 pub mod Powers
+pub mod Rounds
 pub mod Determined

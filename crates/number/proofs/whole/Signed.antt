@@ -20,7 +20,7 @@ module _ (n : ℕ) (h : n ≤ 0x8000_0000) where
   is : pos 0 -ℤ toZ w64 n ≡ negℤ (pos n)
   is = ap (λ (z : ℤ). pos 0 -ℤ z) (toZ-pos w64 n (lt-of-le-of-lt h (lit< tt))) ∙ +ℤ-idl (negℤ (pos n))
 
-  in32 : SFits w32 (negℤ (pos n))
+  pub in32 : SFits w32 (negℤ (pos n))
   in32 = go n h
     where
       go : (k : ℕ) → k ≤ 0x8000_0000 → SFits w32 (negℤ (pos k))

@@ -2,34 +2,15 @@
 -- Assumes nothing.
 use borrow.Author.Needs.{needs}
 use mathlib.Core.Path.{_≡_, sym, ap, _∙_, subst}
-use mathlib.Core.Bool.{true, false}
-use Prim.Native.Nat.{ℕ, zero, suc, _+_, _*_, _/_, _≤_, _<_, min}
-use native.Mathlib.Omega.{arith}
-use lib.Dec.{lit<}
-use lib.IntN.{ℤ, pos, negℤ}
-use lib.Signed.{mag}
-use lib.Ieee.{Float, nan, inf, fin, up, down}
+use lib.IntN.{ℤ}
+use lib.Ieee.{Float}
 use mir.Syntax.{w32}
 use mir.Val.{SFits}
 use mir.ValLaws.{toZ-ofZ}
-use Rattle.number.specs.Whole.{roundSize, roundAs}
+use Rattle.number.specs.Whole.{roundAs}
+use Rattle.number.proofs.Rounds.{round-fits}
 use Rattle.number.proofs.whole.round_i32.Statement.{statement}
 use Rattle.number.proofs.whole.round_i32.Tie as tie
-
-minus : (n : ℕ) → mag (negℤ (pos (min n 0x8000_0000))) < 0x8000_0000
-minus n = go (min n 0x8000_0000) (omega arith)
-  where
-    go : (k : ℕ) → k ≤ 0x8000_0000 → mag (negℤ (pos k)) < 0x8000_0000
-    go zero h = lit< tt
-    go (suc k) h = omega arith
-
-narrow : (x : Float) → mag (roundAs 31 x) < 0x8000_0000
-unfolding roundAs roundSize
-narrow nan = lit< tt
-narrow (inf true) = lit< tt
-narrow (inf false) = lit< tt
-narrow (fin true m e) = minus ((2 * (m * up e) + down e) / (2 * down e))
-narrow (fin false m e) = omega arith
 
 f32-to-f64-with-nan-requires : tie.Need-f32-to-f64-with-nan-requires
 f32-to-f64-with-nan-requires c κs = search needs
@@ -38,7 +19,7 @@ round-i32-f64-requires : tie.Need-round-i32-f64-requires
 round-i32-f64-requires c κs = search needs
 
 same : (r : ℤ) (x y : Float) → r ≡ roundAs 31 y → y ≡ x → SFits w32 r × (r ≡ roundAs 31 x)
-same r x y e f = (record { sfits = subst (λ (z : ℤ). mag z < 0x8000_0000) (sym e) (narrow y) }, e ∙ ap (roundAs 31) f)
+same r x y e f = (subst (SFits w32) (sym e) (round-fits y), e ∙ ap (roundAs 31) f)
 
 returns : tie.Need-returns
 returns c =
