@@ -14,6 +14,7 @@ use Rattle.canvas.specs.Faults.{number}
 use Rattle.canvas.specs.Call.{Outcome, statusOf, countOf, leaves}
 use Rattle.canvas.specs.Look.{Reading, seenOf, reads}
 use Rattle.canvas.specs.Look as look
+use Rattle.canvas.proofs.lines.draw_line.Reads as draw-line
 use Rattle.canvas.proofs.plot.put_pixel.Reads as put-pixel
 use Rattle.canvas.proofs.boxes.draw_rect.Reads as draw-rect
 use Rattle.canvas.proofs.boxes.fill_rect.Reads as fill-rect
@@ -81,6 +82,9 @@ reads-same : (p q : Pixel) → reads p ≡ reads q → p ≡ q
 reads-same p q h = same-pixel p q (ap (λ (r : Reading). r .status) h) (ap (λ (r : Reading). r .color) h)
 
 -- ---- the public functions
+
+pub draw-line-determined : (κs : _) (a : _) (s s' : _) (r r' : _) → draw-line.Post κs a r s → draw-line.Post κs a r' s' → (r ≡ r') × (now (s .1 .0) ≡ now (s' .1 .0))
+draw-line-determined κs a s s' r r' p q = leaves-same r r' (now (s .1 .0)) (now (s' .1 .0)) (p ∙ sym q)
 
 pub put-pixel-determined : (κs : _) (a : _) (s s' : _) (r r' : _) → put-pixel.Post κs a r s → put-pixel.Post κs a r' s' → (r ≡ r') × (now (s .1 .0) ≡ now (s' .1 .0))
 put-pixel-determined κs a s s' r r' p q = leaves-same r r' (now (s .1 .0)) (now (s' .1 .0)) (p ∙ sym q)

@@ -21,7 +21,7 @@ use Rattle.canvas.specs.declared.faults.Verdict.the-variants.{Sound, Fau
 use Rattle.canvas.specs.Bytes.{form, On}
 use Rattle.canvas.specs.Faults.{orElse, verdict}
 use Rattle.canvas.specs.Plot.{Point, Dot, tint, plot, dip, landed, fate, Hit, hitOf, hits, paint}
-use Rattle.canvas.specs.Call.{Call, putPixel, drawRect, fillRect, draw, clipOf, faultOf, sourceColor, dots, brush, plots, ruled, drawing, call}
+use Rattle.canvas.specs.Call.{Call, putPixel, drawLine, drawRect, fillRect, draw, clipOf, faultOf, sourceColor, dots, brush, plots, ruled, drawing, call}
 use Rattle.canvas.specs.Boxes.{each, picture}
 use Rattle.canvas.specs.Calls.{after, unless, landing}
 use Rattle.canvas.proofs.bytes.Cells.{Bytes}
@@ -33,6 +33,7 @@ use Rattle.canvas.proofs.plot.Orders.{perm-of, Screen, Family, All, non
 -- calls whose colours are of bytes, as every caller's are
 abbrev pub Colored : Call → Type 0
 Colored (putPixel x y color clip) = Channels color
+Colored (drawLine x1 y1 x2 y2 color clip) = Channels color
 Colored (drawRect x y w h color clip) = Channels color
 Colored (fillRect x y w h color clip) = Channels color
 Colored (draw dx dy w h source image sx sy clip) = Unit {0}
@@ -46,6 +47,7 @@ pub data Fine : List Call → Type 0 where
 -- the colour that is plotted for a dot's
 abbrev pub shade : Call → Color → Color
 shade (putPixel x y color clip) c = c
+shade (drawLine x1 y1 x2 y2 color clip) c = c
 shade (drawRect x y w h color clip) c = c
 shade (fillRect x y w h color clip) c = c
 shade (draw dx dy w h source image sx sy clip) c = scaled c
@@ -93,6 +95,7 @@ blends v x c = ap (λ (t : Bool). blendWord (form v) t c) x
 pub shaded : (v : Canvas) → v .xor ≡ true → (k : Call) → Colored k → Dots v k (dots v k)
 unfolding dots
 shaded v x (putPixel px py color clip) c = tinted v _ color _ (record { channels = c; alike = refl; plain = ap (λ (t : Bool). plotWord (form v) t color) x })
+shaded v x (drawLine x1 y1 x2 y2 color clip) c = tinted v _ color _ (record { channels = c; alike = refl; plain = ap (λ (t : Bool). plotWord (form v) t color) x })
 shaded v x (drawRect px py w h color clip) c = tinted v _ color _ (record { channels = c; alike = refl; plain = ap (λ (t : Bool). plotWord (form v) t color) x })
 shaded v x (fillRect px py w h color clip) c = tinted v _ color _ (record { channels = c; alike = refl; plain = ap (λ (t : Bool). plotWord (form v) t color) x })
 shaded v x (draw dx dy w h source image sx sy clip) c =

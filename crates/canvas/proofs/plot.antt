@@ -4,3 +4,4 @@ pub mod Draws
 pub mod Paints
 pub mod Answers
 pub mod Orders
+pub mod Dabs

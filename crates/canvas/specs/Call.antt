@@ -16,16 +16,19 @@ use Rattle.canvas.specs.declared.faults.Verdict.the-variants.{Sound, Fau
 use Rattle.canvas.specs.Bytes.{form, loadAt}
 use Rattle.canvas.specs.Faults.{number, orElse, verdict, asSource}
 use Rattle.canvas.specs.Plot.{Plot, at, Dot, tint, dip, hits, paint}
+use Rattle.canvas.specs.Lines.{line}
 use Rattle.canvas.specs.Boxes.{fill, outline, picture, sourceOf, shown}
 
 pub data Call : Type 0 where
   putPixel : ℤ → ℤ → Color → Clip → Call
+  drawLine : ℤ → ℤ → ℤ → ℤ → Color → Clip → Call
   drawRect : ℤ → ℤ → ℕ → ℕ → Color → Clip → Call
   fillRect : ℤ → ℤ → ℕ → ℕ → Color → Clip → Call
   draw : ℤ → ℤ → ℕ → ℕ → Canvas → List ℕ → ℤ → ℤ → Clip → Call
 
 abbrev pub clipOf : Call → Clip
 clipOf (putPixel x y color clip) = clip
+clipOf (drawLine x1 y1 x2 y2 color clip) = clip
 clipOf (drawRect x y w h color clip) = clip
 clipOf (fillRect x y w h color clip) = clip
 clipOf (draw dx dy w h source image sx sy clip) = clip
@@ -33,6 +36,7 @@ clipOf (draw dx dy w h source image sx sy clip) = clip
 -- Its faults beside those of the canvas.
 abbrev pub faultOf : Call → Verdict
 faultOf (putPixel x y color clip) = Sound
+faultOf (drawLine x1 y1 x2 y2 color clip) = Sound
 faultOf (drawRect x y w h color clip) = Sound
 faultOf (fillRect x y w h color clip) = Sound
 faultOf (draw dx dy w h source image sx sy clip) = asSource (verdict source (length image))
@@ -44,6 +48,7 @@ sourceColor s image dx dy sx sy i j = toColor (form s) (loadAt s image (natAbs (
 -- Its points with their colours, on the canvas or off it, in the order of its rules.
 unfoldable pub dots : Canvas → Call → List Dot
 dots v (putPixel x y color clip) = tint color (at x y ∷ [])
+dots v (drawLine x1 y1 x2 y2 color clip) = tint color (line v x1 y1 x2 y2)
 dots v (drawRect x y w h color clip) = tint color (outline v x y w h)
 dots v (fillRect x y w h color clip) = tint color (fill v x y w h)
 dots v (draw dx dy w h source image sx sy clip) =
@@ -52,6 +57,7 @@ dots v (draw dx dy w h source image sx sy clip) =
 -- What a colour makes of the word stored on this canvas: "`draw` blends instead."
 abbrev pub brush : Canvas → Call → Color → ℕ → ℕ
 brush v (putPixel x y color clip) = plotWord (form v) (v .xor)
+brush v (drawLine x1 y1 x2 y2 color clip) = plotWord (form v) (v .xor)
 brush v (drawRect x y w h color clip) = plotWord (form v) (v .xor)
 brush v (fillRect x y w h color clip) = plotWord (form v) (v .xor)
 brush v (draw dx dy w h source image sx sy clip) = blendWord (form v) (v .xor)

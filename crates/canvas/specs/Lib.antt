@@ -2,9 +2,11 @@ pub mod Bytes
 pub mod Faults
 pub mod Clip
 pub mod Plot
+pub mod Lines
 pub mod Boxes
 pub mod Call
 pub mod Calls
 pub mod Areas
 pub mod Look
 pub mod Walk
+pub mod Trail

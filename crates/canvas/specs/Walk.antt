@@ -1,9 +1,11 @@
 -- What the contracts of the inner functions speak of; no public contract cites this file.
 use mathlib.Core.Path.{_≡_}
-use mathlib.Core.Bool.{Bool, true, false}
+use mathlib.Core.Bool.{Bool, true, false, cond}
 use mathlib.Core.List.{List, [], _∷_}
 use Prim.Native.Nat.{ℕ, zero, suc, _+_, _-_, _<_, _≤_}
+use lib.Dec.{leb, ltb}
 use lib.IntN.{ℤ, pos, negsuc, subℕ}
+use lib.Signed.{leZ, ltZ}
 use lib.ListN.{length, getD}
 use Rattle.words.specs.declared.Ink.{Ink}
 use Rattle.words.specs.Format.{Format, argb, range}
@@ -13,11 +15,12 @@ use Rattle.blending.specs.Blend.{blendWord}
 use Rattle.canvas.specs.declared.Canvas.{Canvas}
 use Rattle.canvas.specs.declared.Clip.{Clip}
 use Rattle.canvas.specs.declared.Tally.{Tally}
+use Rattle.canvas.specs.declared.span.Span.{Span}
 use Rattle.canvas.specs.Bytes.{load, store, cells, form, loadAt}
 use Rattle.canvas.specs.Faults.{Sized}
 use Rattle.canvas.specs.Clip.{both, within}
 use Rattle.canvas.specs.Boxes.{select, each, sourceOf}
-use Rattle.canvas.specs.Plot.{Plot, Fate, landed, outside, clipped, fate, Hit, hit, hitOf, touch}
+use Rattle.canvas.specs.Plot.{Point, Plot, plot, Fate, landed, outside, clipped, fate, Hit, hit, hitOf, touch}
 
 -- A signed number of 32 bits as one that is not negative, 2^31 above it; and back.
 unfoldable pub lifted : ℤ → ℕ
@@ -45,6 +48,7 @@ pub record Cut (lo end : ℕ) (c : ℤ) (m n from to : ℕ) : Type 0 where
   pub begins : from < to → lo ≤ from
   pub ends : from < to → to ≤ end
   pub same : (t : ℕ → Bool) → Holds t lo end → run from (to - from) ≡ select (λ i. both (t i) (within c m (pos i))) 0 n
+  pub point : (t : ℕ → Bool) → Holds t lo end → (i : ℕ) → i < n → both (t i) (within c m (pos i)) ≡ both (leb from i) (ltb i to)
 
 -- What a touch of the s bytes from o on leaves.
 pub record Touched (s o : ℕ) (f : ℕ → ℕ) (b b′ : List ℕ) : Type 0 where
@@ -147,3 +151,27 @@ overlaid v s image x y sx sy i j w = blendWord (form v) (v .xor) (toColor (form 
 -- Colours read from an image whose format keeps no alpha are solid.
 pub record Solid (format : ℕ) (cs : List ℕ) : Type 0 where
   pub solid : format < 3 → (i : ℕ) → i < length cs → toColor argb (getD cs i 0) .a ≡ 255
+
+-- Whether a column or row is one of a span.
+unfoldable pub covers : Span → ℤ → Bool
+covers s z = both (leZ (pos (s .from)) z) (ltZ z (pos (s .to)))
+
+-- A plot that can land on these columns and rows alone, and plots one after the other.
+unfoldable pub dabbed : Canvas → Span → Span → (ℕ → ℕ) → Point → Work → Work
+dabbed v xs ys f p w = cond (both (covers xs (p .x)) (covers ys (p .y))) (act v (plot f (p .x) (p .y)) landed w) w
+
+unfoldable pub dabs : Canvas → Span → Span → (ℕ → ℕ) → List Point → Work → Work
+dabs v xs ys f [] w = w
+dabs v xs ys f (p ∷ ps) w = dabs v xs ys f ps (dabbed v xs ys f p w)
+
+-- Columns and rows of the canvas.
+pub record Fields (v : Canvas) (xs ys : Span) : Type 0 where
+  pub ordered-x : xs .from ≤ xs .to
+  pub ordered-y : ys .from ≤ ys .to
+  pub held-x : xs .to ≤ v .width
+  pub held-y : ys .to ≤ v .height
+
+-- Those that are inside the clip.
+pub record Window (v : Canvas) (c : Clip) (xs ys : Span) : Type 0 where
+  pub columns : Cut 0 (v .width) (c .x) (c .width) (v .width) (xs .from) (xs .to)
+  pub rows : Cut 0 (v .height) (c .y) (c .height) (v .height) (ys .from) (ys .to)

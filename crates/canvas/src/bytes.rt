@@ -130,16 +130,22 @@ pub(crate) fn load_at(canvas: Canvas, b: &[u8], x: usize, y: usize) -> u32
     }
 }
 
-// The word of a pixel, inked.
+// The word of a pixel, inked, by the bytes of a word.
+pub(crate) fn touch_by(canvas: Canvas, b: &mut [u8], n: usize, x: usize, y: usize, ink: Ink)
+    requires { ⌜ (Sized canvas (now b)) × ((On canvas x y) × (n ≡ size canvas)) ⌝ }
+    ensures { λ _. ⌜ now (b .exit) ≡ touch canvas (now (b .entry)) (hit (inked ink) x y) ⌝ }
+{
+    let o = index(canvas, x, y);
+    match n {
+        1 => touch1(b, o, ink),
+        2 => touch2(b, o * 2, ink),
+        _ => touch4(b, o * 4, ink),
+    }
+}
+
 pub(crate) fn touch_at(canvas: Canvas, b: &mut [u8], x: usize, y: usize, ink: Ink)
     requires { ⌜ (Sized canvas (now b)) × (On canvas x y) ⌝ }
     ensures { λ _. ⌜ now (b .exit) ≡ touch canvas (now (b .entry)) (hit (inked ink) x y) ⌝ }
 {
-    let o = offset(canvas, x, y);
-    let f = canvas.format;
-    match f {
-        0 => touch1(b, o, ink),
-        1 => touch2(b, o, ink),
-        _ => touch4(b, o, ink),
-    }
+    touch_by(canvas, b, words::bytes_per_pixel(canvas.format), x, y, ink);
 }

@@ -1,15 +1,19 @@
 // Plots: the landing of a point, and the call of one plot.
 ghost use mathlib.Core.Path.{_≡_};
 ghost use mathlib.Core.List.{[], _∷_};
+ghost use Prim.Native.Nat.{_≤_};
 ghost use Rattle.words.specs.Ink.{inked};
-ghost use Rattle.canvas.specs.Plot.{plot};
+ghost use Rattle.canvas.specs.Plot.{at, plot};
 ghost use Rattle.canvas.specs.Call.{putPixel, leaves, call};
-ghost use Rattle.canvas.specs.Walk.{lowered, plus, work, Fits, Ready, Did};
+ghost use Rattle.canvas.specs.Bytes.{size};
+ghost use Rattle.canvas.specs.Faults.{Sized};
+ghost use Rattle.canvas.specs.Walk.{lowered, plus, work, covers, dabbed, Fields, Fits, Ready, Did};
 use crate::Canvas;
 use crate::Clip;
 use crate::Drawn;
 use crate::Tally;
 use crate::faults::Verdict;
+use crate::span::Span;
 use words::Color;
 use words::Ink;
 
@@ -21,6 +25,45 @@ pub(crate) fn landed_more(t: Tally, n: u64) -> Tally
     Tally {
         landed: t.landed + n,
     }
+}
+
+// Whether a lifted number is one of a span.
+fn is_covered(s: Span, p: u64) -> bool
+    requires { ⌜ (s .from ≤ 32767) × (s .to ≤ 32767) ⌝ }
+    ensures { λ r. ⌜ r ≡ covers s (lowered p) ⌝ }
+{
+    if p < 2147483648 + s.from as u64 {
+        return false;
+    }
+    p < 2147483648 + s.to as u64
+}
+
+// A plot at a lifted point that can land on some columns and rows alone. The bytes of a word, n, are a literal in each
+// caller, and the choice by them falls away.
+pub(crate) fn dab(
+    canvas: Canvas,
+    b: &mut [u8],
+    xs: Span,
+    ys: Span,
+    n: usize,
+    p: u64,
+    q: u64,
+    ink: Ink,
+    t: Tally,
+) -> Tally
+    requires { ⌜ (Sized canvas (now b)) × ((Fields canvas xs ys) × ((n ≡ size canvas) × (Fits (plus t 1)))) ⌝ }
+    ensures { λ r. ⌜ work (now (b .exit)) r ≡ dabbed canvas xs ys (inked ink) (at (lowered p) (lowered q)) (work (now (b .entry)) t) ⌝ }
+{
+    if !is_covered(xs, p) {
+        return t;
+    }
+    if !is_covered(ys, q) {
+        return t;
+    }
+    let x = (p - 2147483648) as usize;
+    let y = (q - 2147483648) as usize;
+    crate::bytes::touch_by(canvas, b, n, x, y, ink);
+    landed_more(t, 1)
 }
 
 // A plot at a lifted point.

@@ -102,6 +102,18 @@ pub(crate) fn cut(s: Span, c: i32, m: u32, n: u32) -> Span
     }
 }
 
+// A canvas's side of n pixels inside the clip's span of m from c.
+pub(crate) fn window(c: i32, m: u32, n: u32) -> Span
+    requires { ⌜ n ≤ 32767 ⌝ }
+    ensures { λ r. ⌜ Cut 0 n c m n (r .from) (r .to) ⌝ }
+{
+    let all = Span {
+        from: 0,
+        to: n as usize,
+    };
+    cut(all, c, m, n)
+}
+
 // What two spans share.
 fn meet(a: Span, b: Span) -> Span
     ensures { λ r. ⌜ (r .from ≡ max (a .from) (b .from)) × (r .to ≡ min (a .to) (b .to)) ⌝ }

@@ -1,5 +1,5 @@
 -- Where the code finds a pixel's bytes, and that what it reads and writes there is the pixel's word.
-use mathlib.Core.Path.{_≡_, refl, _∙_}
+use mathlib.Core.Path.{_≡_, refl, sym, _∙_}
 use mathlib.Core.List.{List}
 use Prim.Native.Nat.{ℕ, zero, suc, _+_, _*_, _^_, _≤_, _<_}
 use native.Mathlib.Omega.{arith}
@@ -52,6 +52,16 @@ four-bytes (suc (suc zero)) l h0 h1 = refl
 four-bytes (suc (suc (suc zero))) l h0 h1 = refl
 four-bytes (suc (suc (suc (suc zero)))) l h0 h1 = refl
 four-bytes (suc (suc (suc (suc (suc n))))) l h0 h1 = absurd (omega arith)
+
+-- a word has one, two or four
+pub sized-four : (v : Canvas) (n : ℕ) → v .format ≤ 4 → n ≡ size v → (n ≡ 1 → ⊥) → (n ≡ 2 → ⊥) → size v ≡ 4
+sized-four v n l e h1 h2 = four-bytes (v .format) l (λ z. h1 (e ∙ one-byte (v .format) z)) (λ z. h2 (e ∙ two-bytes (v .format) z))
+
+pub scaled : (v : Canvas) (o i k : ℕ) → o ≡ i → size v ≡ k → o * k ≡ i * size v
+scaled v o i k e z = rw (e, z) refl
+
+pub unscaled : (v : Canvas) (o i : ℕ) → o ≡ i → size v ≡ 1 → o ≡ i * size v
+unscaled v o i e z = rw (e, z) (omega arith)
 
 bytes-le : (f : Format) → bytesPerPixel f ≤ 4
 unfolding bytesPerPixel

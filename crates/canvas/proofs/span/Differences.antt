@@ -4,9 +4,9 @@ use Prim.Native.Nat.{ℕ, zero, suc, _+_, _-_, _≤_, _<_, min, max}
 use native.Mathlib.Omega.{arith}
 use native.Mathlib.Decide.{decLt, decLe}
 use borrow.Author.Tests.{lt-ltb, le-ltb, le-leb, lt-leb}
-use lib.Dec.{leb}
-use lib.IntN.{ℤ, pos, negsuc, negℤ, subℕ, _+ℤ_, _-ℤ_}
-use lib.Signed.{leZ}
+use lib.Dec.{leb, ltb}
+use lib.IntN.{ℤ, pos, negsuc, natAbs, negℤ, subℕ, _+ℤ_, _-ℤ_}
+use lib.Signed.{leZ, ltZ}
 use mir.Syntax.{w32}
 use mir.Val.{SFits}
 use Rattle.canvas.specs.Clip.{larger, smaller, extentOf, shared}
@@ -40,6 +40,15 @@ sub-leZ m k n l = go (sign m k) (sign n l)
     go (plus h) (minus g) = ap₂ leZ (sub-pos m k h) (sub-neg n l g) ∙ sym (lt-leb (m + l) (n + k) (omega arith))
     go (plus h) (plus g) = ap₂ leZ (sub-pos m k h) (sub-pos n l g) ∙ same-leb (m - k) (n - l) (m + l) (n + k) (omega arith) (omega arith)
 
+pub sub-ltZ : (m k n l : ℕ) → ltZ (subℕ m k) (subℕ n l) ≡ ltb (m + l) (n + k)
+sub-ltZ m k n l = go (sign m k) (sign n l)
+  where
+    go : Sign m k → Sign n l → ltZ (subℕ m k) (subℕ n l) ≡ ltb (m + l) (n + k)
+    go (minus h) (minus g) = ap₂ ltZ (sub-neg m k h) (sub-neg n l g) ∙ same-leb (suc (l - suc n)) (k - suc m) (suc (m + l)) (n + k) (omega arith) (omega arith)
+    go (minus h) (plus g) = ap₂ ltZ (sub-neg m k h) (sub-pos n l g) ∙ sym (lt-ltb (m + l) (n + k) (omega arith))
+    go (plus h) (minus g) = ap₂ ltZ (sub-pos m k h) (sub-neg n l g) ∙ sym (le-ltb (m + l) (n + k) (omega arith))
+    go (plus h) (plus g) = ap₂ ltZ (sub-pos m k h) (sub-pos n l g) ∙ same-leb (suc (m - k)) (n - l) (suc (m + l)) (n + k) (omega arith) (omega arith)
+
 pub sub-eq : (m k n l : ℕ) → m + l ≡ n + k → subℕ m k ≡ subℕ n l
 sub-eq m k n l e = go (sign m k) (sign n l)
   where
@@ -49,7 +58,7 @@ sub-eq m k n l e = go (sign m k) (sign n l)
     go (plus h) (minus g) = absurd (omega arith)
     go (plus h) (plus g) = sub-pos m k h ∙ ap pos (omega arith) ∙ sym (sub-pos n l g)
 
-pos-sub : (n : ℕ) → pos n ≡ subℕ n 0
+pub pos-sub : (n : ℕ) → pos n ≡ subℕ n 0
 pos-sub n = sym (sub-pos n 0 (omega arith) ∙ ap pos (omega arith))
 
 pub sub-add : (m k n l : ℕ) → subℕ m k +ℤ subℕ n l ≡ subℕ (m + n) (k + l)
@@ -61,7 +70,7 @@ sub-add m k n l = go (sign m k) (sign n l)
     go (plus h) (minus g) = ap₂ _+ℤ_ (sub-pos m k h) (sub-neg n l g) ∙ sub-eq (m - k) (suc (l - suc n)) (m + n) (k + l) (omega arith)
     go (plus h) (plus g) = ap₂ _+ℤ_ (sub-pos m k h) (sub-pos n l g) ∙ ap pos (omega arith) ∙ sym (sub-pos (m + n) (k + l) (omega arith))
 
-neg-pos : (n : ℕ) → negℤ (pos n) ≡ subℕ 0 n
+pub neg-pos : (n : ℕ) → negℤ (pos n) ≡ subℕ 0 n
 neg-pos zero = sym (sub-pos 0 0 (omega arith))
 neg-pos (suc n) = sym (sub-neg 0 (suc n) (omega arith) ∙ ap negsuc (omega arith))
 
@@ -74,6 +83,13 @@ sub-negℤ m k = go (sign m k)
 
 pub sub-sub : (m k n l : ℕ) → subℕ m k -ℤ subℕ n l ≡ subℕ (m + l) (k + n)
 sub-sub m k n l = ap (λ (z : ℤ). subℕ m k +ℤ z) (sub-negℤ n l) ∙ sub-add m k l n
+
+pub sub-abs : (m k : ℕ) → natAbs (subℕ m k) ≡ (m - k) + (k - m)
+sub-abs m k = go (sign m k)
+  where
+    go : Sign m k → natAbs (subℕ m k) ≡ (m - k) + (k - m)
+    go (minus h) = ap natAbs (sub-neg m k h) ∙ omega arith
+    go (plus h) = ap natAbs (sub-pos m k h) ∙ omega arith
 
 -- ---- what two spans share
 
@@ -99,7 +115,7 @@ module _ (p q k : ℕ) where
       go (yes h) = rw (sub-leZ p k q k, le-leb (p + k) (q + k) (omega arith)) (sub-eq p k (min p q) k (omega arith))
       go (no h) = rw (sub-leZ p k q k, lt-leb (p + k) (q + k) (omega arith)) (sub-eq q k (min p q) k (omega arith))
 
-lifted-sub : (a : ℤ) → SFits w32 a → a ≡ subℕ (lifted a) 2147483648
+pub lifted-sub : (a : ℤ) → SFits w32 a → a ≡ subℕ (lifted a) 2147483648
 unfolding lifted
 lifted-sub (pos n) s = sym (sub-pos (2147483648 + n) 2147483648 (omega arith) ∙ ap pos (omega arith))
 lifted-sub (negsuc n) s = sym (sub-neg (2147483647 - n) 2147483648 (omega arith) ∙ ap negsuc (omega arith))

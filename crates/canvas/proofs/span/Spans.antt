@@ -176,6 +176,16 @@ module _ (lo end : ℕ) (c : ℤ) (m n u : ℕ) (s : SFits w32 c) (eu : u ≡ li
         let g : Holds (λ i. both (t i) (within c m (pos i))) from (min end ct) = rw (← gf) at (holds-both h clip-holds) in
         run-is (λ i. both (t i) (within c m (pos i))) from (min end ct) n to g gt
 
+    same-point : (t : ℕ → Bool) → Holds t lo end → (i : ℕ) → i < n → both (t i) (within c m (pos i)) ≡ both (leb from i) (ltb i to)
+    same-point t h i l =
+        let g : Holds (λ k. both (t k) (within c m (pos k))) from (min end ct) = rw (← gf) at (holds-both h clip-holds) in
+        go g (decLt i from) (decLt i to)
+      where
+        go : Holds (λ k. both (t k) (within c m (pos k))) from (min end ct) → Dec (i < from) → Dec (i < to) → both (t i) (within c m (pos i)) ≡ both (leb from i) (ltb i to)
+        go g (yes a) d = g .before i a ∙ rw (lt-leb from i a) refl
+        go g (no a) (yes d) = g .inside i (omega arith) (omega arith) ∙ rw (le-leb from i (omega arith), lt-ltb i to d) refl
+        go g (no a) (no d) = g .past i (omega arith) ∙ rw (le-ltb i to (omega arith)) (sym (both-no (leb from i)))
+
     pub cut-is : from ≤ to → Cut lo end c m n from to
     cut-is l = record {
       ordered = l;
@@ -183,9 +193,17 @@ module _ (lo end : ℕ) (c : ℤ) (m n u : ℕ) (s : SFits w32 c) (eu : u ≡ li
       begins = λ h. omega arith;
       ends = λ h. omega arith;
       same = same-run;
+      point = same-point;
     }
 
     pub cut-none : to < from → Cut lo end c m n 0 0
     cut-none l =
         let z : to - from ≡ 0 = omega arith in
-        record { ordered = omega arith; held = omega arith; begins = λ h. absurd (omega arith); ends = λ h. absurd (omega arith); same = λ t h. run-zero 0 ∙ sym (run-zero from) ∙ ap (run from) (sym z) ∙ same-run t h }
+        record { ordered = omega arith; held = omega arith; begins = λ h. absurd (omega arith); ends = λ h. absurd (omega arith); same = λ t h. run-zero 0 ∙ sym (run-zero from) ∙ ap (run from) (sym z) ∙ same-run t h; point = λ t h i k. same-point t h i k ∙ nowhere i }
+      where
+        nowhere : (i : ℕ) → both (leb from i) (ltb i to) ≡ both (leb 0 i) (ltb i 0)
+        nowhere i = neither (decLt i to) ∙ rw (le-ltb i 0 (omega arith)) (sym (both-no (leb 0 i)))
+          where
+            neither : Dec (i < to) → both (leb from i) (ltb i to) ≡ false
+            neither (yes h) = rw (lt-leb from i (omega arith)) refl
+            neither (no h) = rw (le-ltb i to (omega arith)) (both-no (leb from i))
