@@ -4,16 +4,14 @@ use std::io::{BufRead, BufReader, BufWriter, Write};
 use std::process::{Child, Command, Stdio};
 use std::thread;
 
+use crate::differ::{count, permitted};
 use crate::random::Cases;
 
 /// Differences printed in full; the rest are only counted.
 const SHOWN: u64 = 20;
 
-/// Whether an answer of the port may differ from the Rust's, by docs/DIFFERENCES.md.
-/// Nothing may today. The rules for strokes and pies belong here: they need the case, and the Rust's points before rounding.
-fn permitted(_case: &str, _ours: &str, _rust: &str) -> bool {
-    false
-}
+/// The calls of which points may differ.
+const CURVES: [&str; 3] = ["arc ", "pie ", "rrect "];
 
 struct Side {
     name: &'static str,
@@ -23,7 +21,7 @@ struct Side {
 
 impl Side {
     /// Starts the program and feeds it the cases.
-    fn start(name: &'static str, program: &str, cases: Cases) -> Side {
+    fn start(name: &'static str, program: &str, mut cases: impl Iterator<Item = String> + Send + 'static) -> Side {
         let mut child = Command::new(program)
             .stdin(Stdio::piped())
             .stdout(Stdio::piped())
@@ -31,7 +29,7 @@ impl Side {
             .unwrap_or_else(|error| panic!("{program} does not start: {error}"));
         let mut input = BufWriter::new(child.stdin.take().unwrap());
         // A program that ends early is seen by its missing lines.
-        thread::spawn(move || cases.into_iter().try_for_each(|case| writeln!(input, "{case}")));
+        thread::spawn(move || cases.try_for_each(|case| writeln!(input, "{case}")));
         let lines = Box::new(BufReader::new(child.stdout.take().unwrap()).lines());
         Side { name, child, lines }
     }
@@ -45,12 +43,21 @@ impl Side {
     }
 }
 
+/// The answers of a program to some lines.
+fn asked(program: &str, lines: &[String]) -> Vec<String> {
+    let mut side = Side::start("asked", program, lines.to_vec().into_iter());
+    let answers = lines.iter().map(|_| side.answer()).collect();
+    ended_well(&mut side);
+    answers
+}
+
 /// Runs the port and the two builds of the Rust; whether they agree.
-pub fn compare(n: u64, seed: u64, ops: &[&'static str], [ours, checked, unchecked]: [&str; 3]) -> bool {
+pub fn compare(n: u64, seed: u64, ops: &[&'static str], [port, checked, unchecked]: [&str; 3]) -> bool {
     let cases = || Cases::new(n, seed, ops);
-    let mut ours = Side::start("ours", ours, cases());
+    let mut ours = Side::start("ours", port, cases());
     let mut rust = [Side::start("Rust with overflow checks", checked, cases()), Side::start("Rust without", unchecked, cases())];
     let (mut landed, mut refused, mut unread, mut differences, mut allowed) = (0, 0, 0, 0, 0);
+    let (mut points, mut moved) = (0, 0);
     for case in cases() {
         let answer = ours.answer();
         let answers = [rust[0].answer(), rust[1].answer()];
@@ -58,11 +65,18 @@ pub fn compare(n: u64, seed: u64, ops: &[&'static str], [ours, checked, unchecke
         unread += (answers[0] == "bad") as u64;
         refused += (!accepted && answers[0].contains(" status=")) as u64;
         landed += (accepted && !answers[0].contains(" count=0 ") && !answers[0].contains(" none ")) as u64;
+        if CURVES.iter().any(|op| answers[0].starts_with(op)) {
+            points += count(&answers[0]).unwrap_or(0);
+        }
         if answers.iter().all(|a| *a == answer) {
             continue;
         }
-        if answers.iter().all(|a| *a == answer || permitted(&case, &answer, a)) {
+        let mut ask = |lines: &[String]| asked(port, lines);
+        if answers[0] == answers[1]
+            && let Some(n) = permitted(&case, &answer, &answers[0], &mut ask)
+        {
             allowed += 1;
+            moved += n;
             continue;
         }
         differences += 1;
@@ -77,6 +91,9 @@ pub fn compare(n: u64, seed: u64, ops: &[&'static str], [ours, checked, unchecke
          {differences} differences, {allowed} permitted",
         ops.join(",")
     );
+    if points > 0 {
+        println!("strokes and pies: {points} points landed, {moved} of them elsewhere, where they may");
+    }
     differences == 0 && ended
 }
 
