@@ -145,6 +145,6 @@ fn refusal(screen: &Screen, call: &Call) -> u32 {
 }
 
 /// The 64-bit FNV-1a.
-fn hash(bytes: &[u8]) -> u64 {
+pub fn hash(bytes: &[u8]) -> u64 {
     bytes.iter().fold(0xcbf2_9ce4_8422_2325, |h, &b| (h ^ b as u64).wrapping_mul(0x0100_0000_01b3))
 }

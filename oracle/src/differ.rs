@@ -26,7 +26,7 @@ pub fn permitted(line: &str, ours: &str, rust: &str, ask: &mut dyn FnMut(&[Strin
     (answer_with(&case, &pixels) == ours).then_some(points)
 }
 
-/// The pixels that differ. A part in which both sides answer the same, with XOR off and with XOR on, is not looked into.
+/// The pixels that differ. A part in which both sides answer the same is not looked into.
 fn differing(words: &[&str], whole: Clip, ask: &mut dyn FnMut(&[String]) -> Vec<String>) -> Option<Vec<Pixel>> {
     let mut found = Vec::new();
     let mut parts = vec![whole];
@@ -34,17 +34,17 @@ fn differing(words: &[&str], whole: Clip, ask: &mut dyn FnMut(&[String]) -> Vec<
         if parts.len() > PARTS {
             return None;
         }
-        let lines: Vec<String> = parts.iter().flat_map(|part| probes(words, part)).collect();
+        let lines: Vec<String> = parts.iter().map(|part| probe(words, part)).collect();
         let ours = ask(&lines);
         let rust: Vec<String> = lines.iter().map(|line| answer(line.as_bytes())).collect();
         let mut next = Vec::new();
-        for ((part, ours), rust) in parts.iter().zip(ours.chunks(2)).zip(rust.chunks(2)) {
+        for ((part, ours), rust) in parts.iter().zip(&ours).zip(&rust) {
             if ours == rust {
                 continue;
             }
             match halves(part) {
                 Some(two) => next.extend(two),
-                None => found.push(Pixel { x: part.x.into(), y: part.y.into(), ours: count(&ours[0])?, rust: count(&rust[0])? }),
+                None => found.push(Pixel { x: part.x.into(), y: part.y.into(), ours: count(ours)?, rust: count(rust)? }),
             }
         }
         parts = next;
@@ -52,10 +52,10 @@ fn differing(words: &[&str], whole: Clip, ask: &mut dyn FnMut(&[String]) -> Vec<
     Some(found)
 }
 
-/// The same shape in white on a black 332 screen under a clip, XOR off and on.
-fn probes(words: &[&str], &Clip { x, y, width, height }: &Clip) -> [String; 2] {
-    let (sides, shape) = (words[1..3].join(" "), words[5..12].join(" "));
-    [0, 1].map(|xor| format!("0 {sides} {xor} z {shape} 255 255 255 255 {x} {y} {width} {height}"))
+/// The same shape in white on a black 332 screen, under a clip.
+fn probe(words: &[&str], &Clip { x, y, width, height }: &Clip) -> String {
+    let (sides, xor, shape) = (words[1..3].join(" "), words[3], words[5..12].join(" "));
+    format!("0 {sides} {xor} z {shape} 255 255 255 255 {x} {y} {width} {height}")
 }
 
 /// Nothing for a pixel.

@@ -73,7 +73,11 @@ impl Chance {
         if op == "lbmp" {
             return self.lbmp();
         }
-        let (w, h) = if op == "line" && self.percent(1) { self.thin() } else { self.sides() };
+        let (w, h) = match op {
+            "line" => self.line_sides(),
+            "arc" | "rrect" => self.stroke_sides(),
+            _ => self.sides(),
+        };
         let head = self.head(w, h);
         let wild = 4;
         let args = match op {

@@ -3,6 +3,15 @@
 use super::{Chance, HALF, MOST};
 
 impl Chance {
+    /// The longest sides but seldom: a stroke has hundreds of thousands of points there.
+    pub(super) fn stroke_sides(&mut self) -> (i64, i64) {
+        match self.sides() {
+            (32_767, 1) if self.percent(98) => (999, 1),
+            (1, 32_767) if self.percent(98) => (1, 999),
+            sides => sides,
+        }
+    }
+
     /// x y w h, now and then a box that is far bigger than the screen and has an edge on it.
     pub(super) fn round_area(&mut self, w: i64, h: i64) -> String {
         if self.percent(95) {

@@ -3,10 +3,10 @@
 use super::{Chance, MAX, MIN};
 
 impl Chance {
-    /// A screen of one or two rows or columns as long as they may be.
-    pub(super) fn thin(&mut self) -> (i64, i64) {
+    /// Now and then a screen of one or two rows or columns as long as they may be.
+    pub(super) fn line_sides(&mut self) -> (i64, i64) {
         let few = self.from(1, 2);
-        self.pick(&[(32_767, few), (few, 32_767)])
+        if self.percent(1) { self.pick(&[(32_767, few), (few, 32_767)]) } else { self.sides() }
     }
 
     /// x1 y1 x2 y2
