@@ -19,32 +19,38 @@ pub fn permitted(line: &str, ours: &str, rust: &str, ask: &mut dyn FnMut(&[Strin
     let sides = (case.screen.width, case.screen.height);
     let (_, clip) = case.call.ink()?;
     let whole = Clip { x: 0, y: 0, width: sides.0, height: sides.1 }.intersect(&clip);
+    if whole.width == 0 || whole.height == 0 {
+        return None;
+    }
     let words: Vec<&str> = line.split(' ').collect();
-    let pixels = differing(&words, whole, ask)?;
-    let points = allowed(&case.call, sides, clip, &pixels)?;
-    // These pixels are all that differs.
-    (answer_with(&case, &pixels) == ours).then_some(points)
+    // With XOR on most parts show what differs in them; with XOR off as well, nearly all do.
+    [&["1"][..], &["0", "1"]].into_iter().find_map(|modes| {
+        let pixels = differing(&words, modes, whole, ask)?;
+        let points = allowed(&case.call, sides, clip, &pixels)?;
+        // These pixels are all that differs.
+        (answer_with(&case, &pixels) == ours).then_some(points)
+    })
 }
 
-/// The pixels that differ. A part in which both sides answer the same is not looked into.
-fn differing(words: &[&str], whole: Clip, ask: &mut dyn FnMut(&[String]) -> Vec<String>) -> Option<Vec<Pixel>> {
+/// The pixels that differ. A part in which both sides answer the same, in these modes, is not looked into.
+fn differing(words: &[&str], modes: &[&str], whole: Clip, ask: &mut dyn FnMut(&[String]) -> Vec<String>) -> Option<Vec<Pixel>> {
     let mut found = Vec::new();
     let mut parts = vec![whole];
     while !parts.is_empty() {
         if parts.len() > PARTS {
             return None;
         }
-        let lines: Vec<String> = parts.iter().map(|part| probe(words, part)).collect();
+        let lines: Vec<String> = parts.iter().flat_map(|part| modes.iter().map(move |xor| probe(words, xor, part))).collect();
         let ours = ask(&lines);
         let rust: Vec<String> = lines.iter().map(|line| answer(line.as_bytes())).collect();
         let mut next = Vec::new();
-        for ((part, ours), rust) in parts.iter().zip(&ours).zip(&rust) {
+        for ((part, ours), rust) in parts.iter().zip(ours.chunks(modes.len())).zip(rust.chunks(modes.len())) {
             if ours == rust {
                 continue;
             }
             match halves(part) {
                 Some(two) => next.extend(two),
-                None => found.push(Pixel { x: part.x.into(), y: part.y.into(), ours: count(ours)?, rust: count(rust)? }),
+                None => found.push(Pixel { x: part.x.into(), y: part.y.into(), ours: count(&ours[0])?, rust: count(&rust[0])? }),
             }
         }
         parts = next;
@@ -53,8 +59,8 @@ fn differing(words: &[&str], whole: Clip, ask: &mut dyn FnMut(&[String]) -> Vec<
 }
 
 /// The same shape in white on a black 332 screen, under a clip.
-fn probe(words: &[&str], &Clip { x, y, width, height }: &Clip) -> String {
-    let (sides, xor, shape) = (words[1..3].join(" "), words[3], words[5..12].join(" "));
+fn probe(words: &[&str], xor: &str, &Clip { x, y, width, height }: &Clip) -> String {
+    let (sides, shape) = (words[1..3].join(" "), words[5..12].join(" "));
     format!("0 {sides} {xor} z {shape} 255 255 255 255 {x} {y} {width} {height}")
 }
 
