@@ -17,6 +17,8 @@ const MAX: i64 = i32::MAX as i64;
 const MOST: i64 = u32::MAX as i64;
 const HALF: i64 = 1 << 31;
 const COLOR: &str = "128 200 100 50";
+/// A clip.
+const EVERYWHERE: &str = "-2147483648 -2147483648 4294967295 4294967295";
 
 /// The cases of these ops.
 pub fn fixed(ops: &[&'static str]) -> Vec<String> {

@@ -1,6 +1,6 @@
-//! Arcs, pies and round rectangles. Lines in which a point may differ from the Rust's are taken out by the list's maker.
+//! Arcs, pies and round rectangles. Those of which a point may differ from the Rust's are taken out of the list.
 
-use super::{COLOR, MAX, MIN, MOST, SIDES, areas, head, modes};
+use super::{COLOR, EVERYWHERE, MAX, MIN, MOST, SIDES, areas, head, modes};
 
 /// Angles about a quarter turn, a turn and two.
 const ANGLES: [i64; 15] = [0, 1, -1, 90, -90, 359, -359, 360, -360, 361, -361, 720, -720, 721, -721];
@@ -20,8 +20,6 @@ const SWEEPS: [(i64, i64); 12] = [
     (45, 0),
     (700, -720),
 ];
-
-const EVERYWHERE: &str = "-2147483648 -2147483648 4294967295 4294967295";
 
 /// Corners and sides on both sides of SHAPE's edges.
 fn edges(op: &str, args: &str, list: &mut Vec<String>) {

@@ -1,8 +1,6 @@
 //! Lines.
 
-use super::{COLOR, MAX, MIN, MOST, SIDES, areas, head, modes};
-
-const EVERYWHERE: &str = "-2147483648 -2147483648 4294967295 4294967295";
+use super::{COLOR, EVERYWHERE, MAX, MIN, SIDES, areas, head, modes};
 
 /// The ends of a side, and up to two past them.
 fn margins(side: i64) -> [i64; 6] {
@@ -81,7 +79,7 @@ fn sizes(list: &mut Vec<String>) {
                 (MIN, MIN, MAX, MAX),
                 (MAX, 0, MIN, bottom),
             ] {
-                list.push(format!("{head} line {x1} {y1} {x2} {y2} {COLOR} {MIN} {MIN} {MOST} {MOST}"));
+                list.push(format!("{head} line {x1} {y1} {x2} {y2} {COLOR} {EVERYWHERE}"));
             }
         }
     }
