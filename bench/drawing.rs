@@ -5,13 +5,15 @@
 //!
 //! Each time is the best of many samples. Before a row is timed both sides must leave the same bytes.
 //!
-//! `passes CALL rust|ours FORMAT XOR K` makes a call K times on one side and prints nothing, for instructions to be counted.
+//! `passes CALL rust|ours FORMAT XOR K` makes a call K times on one side and prints nothing, for instructions to be counted;
+//! `shapes` prints the names of the lines and curves that are built in, with the plots that land.
 
 extern crate alloc;
 
 #[allow(warnings)]
 #[path = "../oracle/src/wie.rs"]
 mod canvas;
+mod shapes;
 
 use std::hint::black_box;
 use std::time::{Duration, Instant};
@@ -272,26 +274,30 @@ impl Ours {
 }
 
 /// A canvas on each side with the same bytes, none of them alike by plan.
-fn pair(format: u32, xor: bool, mut s: u32) -> (Box<dyn Canvas>, Ours) {
+fn pair(format: u32, xor: bool, s: u32) -> (Box<dyn Canvas>, Ours) {
+    pair_of(format, xor, s, (WIDTH, HEIGHT))
+}
+
+fn pair_of(format: u32, xor: bool, mut s: u32, sides: (u32, u32)) -> (Box<dyn Canvas>, Ours) {
     let byte = |_| {
         s = s.wrapping_mul(1_664_525).wrapping_add(1_013_904_223);
         (s >> 24) as u8
     };
-    let bytes: Vec<u8> = (0..WIDTH * HEIGHT * SIZES[format as usize]).map(byte).collect();
+    let bytes: Vec<u8> = (0..sides.0 * sides.1 * SIZES[format as usize]).map(byte).collect();
     let mut canvas = match format {
-        0 => canvas_of::<Rgb332Pixel>(&bytes),
-        1 => canvas_of::<Rgb565Pixel>(&bytes),
-        2 => canvas_of::<Rgb8Pixel>(&bytes),
-        3 => canvas_of::<ArgbPixel>(&bytes),
-        _ => canvas_of::<AbgrPixel>(&bytes),
+        0 => canvas_of::<Rgb332Pixel>(sides, &bytes),
+        1 => canvas_of::<Rgb565Pixel>(sides, &bytes),
+        2 => canvas_of::<Rgb8Pixel>(sides, &bytes),
+        3 => canvas_of::<ArgbPixel>(sides, &bytes),
+        _ => canvas_of::<AbgrPixel>(sides, &bytes),
     };
     canvas.set_xor_mode(xor);
     (canvas, Ours { format, xor, bytes })
 }
 
-fn canvas_of<P: PixelType + 'static>(bytes: &[u8]) -> Box<dyn Canvas> {
+fn canvas_of<P: PixelType + 'static>((width, height): (u32, u32), bytes: &[u8]) -> Box<dyn Canvas> {
     let words = bytemuck::pod_collect_to_vec(bytes);
-    Box::new(ImageBufferCanvas::new(VecImageBuffer::<P>::from_raw(WIDTH, HEIGHT, words)))
+    Box::new(ImageBufferCanvas::new(VecImageBuffer::<P>::from_raw(width, height, words)))
 }
 
 fn rust_call(canvas: &mut dyn Canvas, image: &dyn Image, work: Work) {
@@ -390,6 +396,9 @@ const COPIES: [(&str, Work); 5] = [
 ];
 
 fn passes(name: &str, side: &str, format: u32, xor: bool, k: u32) {
+    if shapes::passes(name, side, format, xor, k) {
+        return;
+    }
     let (mut canvas, mut ours) = pair(format, xor, 7);
     let (image, lent) = pair(3, false, 8);
     let copy = |note| COPIES.into_iter().find(|(name, _)| *name == note);
@@ -419,6 +428,9 @@ fn main() {
         assert_eq!(mode, "passes");
         return passes(name, side, format.parse().unwrap(), xor == "1", k.parse().unwrap());
     }
+    if words == ["shapes"] {
+        return shapes::names();
+    }
     println!("| {WIDTH} by {HEIGHT} | format | XOR | how | Rust, ns a pixel | ours, ns a pixel | ours / Rust |");
     println!("|---|---|---|---|---|---|---|");
     for (note, clip) in [("whole", WHOLE), ("border cut", INNER)] {
@@ -435,4 +447,5 @@ fn main() {
     modes().for_each(|(format, xor)| call("draw", format, xor, "over its own", format, Work::Draw));
     modes().for_each(|(format, xor)| put(format, xor));
     (0..5).for_each(get);
+    shapes::rows();
 }

@@ -4,16 +4,14 @@ use std::io::{BufRead, BufReader, BufWriter, Write};
 use std::process::{Child, Command, Stdio};
 use std::thread;
 
+use crate::differ::{count, permitted};
 use crate::random::Cases;
 
 /// Differences printed in full; the rest are only counted.
 const SHOWN: u64 = 20;
 
-/// Whether an answer of the port may differ from the Rust's, by docs/DIFFERENCES.md.
-/// Nothing may today. The rules for strokes and pies belong here: they need the case, and the Rust's points before rounding.
-fn permitted(_case: &str, _ours: &str, _rust: &str) -> bool {
-    false
-}
+/// The calls of which points may differ.
+const CURVES: [&str; 3] = ["arc ", "pie ", "rrect "];
 
 struct Side {
     name: &'static str,
@@ -23,7 +21,7 @@ struct Side {
 
 impl Side {
     /// Starts the program and feeds it the cases.
-    fn start(name: &'static str, program: &str, cases: Cases) -> Side {
+    fn start(name: &'static str, program: &str, mut cases: impl Iterator<Item = String> + Send + 'static) -> Side {
         let mut child = Command::new(program)
             .stdin(Stdio::piped())
             .stdout(Stdio::piped())
@@ -31,7 +29,7 @@ impl Side {
             .unwrap_or_else(|error| panic!("{program} does not start: {error}"));
         let mut input = BufWriter::new(child.stdin.take().unwrap());
         // A program that ends early is seen by its missing lines.
-        thread::spawn(move || cases.into_iter().try_for_each(|case| writeln!(input, "{case}")));
+        thread::spawn(move || cases.try_for_each(|case| writeln!(input, "{case}")));
         let lines = Box::new(BufReader::new(child.stdout.take().unwrap()).lines());
         Side { name, child, lines }
     }
@@ -45,38 +43,73 @@ impl Side {
     }
 }
 
+/// The answers of a program to some lines.
+fn asked(program: &str, lines: &[String]) -> Vec<String> {
+    let mut side = Side::start("asked", program, lines.to_vec().into_iter());
+    let answers = lines.iter().map(|_| side.answer()).collect();
+    ended_well(&mut side);
+    answers
+}
+
+/// What the answers show.
+#[derive(Default)]
+struct Tally {
+    landed: u64,
+    refused: u64,
+    unread: u64,
+    differences: u64,
+    permitted: u64,
+    /// Of strokes and pies: the points that land, and those of them that differ and may.
+    points: u64,
+    elsewhere: u64,
+}
+
+impl Tally {
+    /// Whether the answers differ though they may not.
+    fn look(&mut self, case: &str, ours: &str, rust: &[String; 2], port: &str) -> bool {
+        let accepted = rust[0].contains(" status=0 ");
+        self.unread += (rust[0] == "bad") as u64;
+        self.refused += (!accepted && rust[0].contains(" status=")) as u64;
+        self.landed += (accepted && !rust[0].contains(" count=0 ") && !rust[0].contains(" none ")) as u64;
+        if CURVES.iter().any(|op| rust[0].starts_with(op)) {
+            self.points += count(&rust[0]).unwrap_or(0);
+        }
+        if rust.iter().all(|answer| answer == ours) {
+            return false;
+        }
+        let agreed = rust[0] == rust[1];
+        let points = if agreed { permitted(case, ours, &rust[0], &mut |lines| asked(port, lines)) } else { None };
+        self.permitted += points.is_some() as u64;
+        self.elsewhere += points.unwrap_or(0);
+        self.differences += points.is_none() as u64;
+        points.is_none()
+    }
+}
+
 /// Runs the port and the two builds of the Rust; whether they agree.
-pub fn compare(n: u64, seed: u64, ops: &[&'static str], [ours, checked, unchecked]: [&str; 3]) -> bool {
+pub fn compare(n: u64, seed: u64, ops: &[&'static str], [port, checked, unchecked]: [&str; 3]) -> bool {
     let cases = || Cases::new(n, seed, ops);
-    let mut ours = Side::start("ours", ours, cases());
+    let mut ours = Side::start("ours", port, cases());
     let mut rust = [Side::start("Rust with overflow checks", checked, cases()), Side::start("Rust without", unchecked, cases())];
-    let (mut landed, mut refused, mut unread, mut differences, mut allowed) = (0, 0, 0, 0, 0);
+    let mut tally = Tally::default();
     for case in cases() {
         let answer = ours.answer();
         let answers = [rust[0].answer(), rust[1].answer()];
-        let accepted = answers[0].contains(" status=0 ");
-        unread += (answers[0] == "bad") as u64;
-        refused += (!accepted && answers[0].contains(" status=")) as u64;
-        landed += (accepted && !answers[0].contains(" count=0 ") && !answers[0].contains(" none ")) as u64;
-        if answers.iter().all(|a| *a == answer) {
-            continue;
-        }
-        if answers.iter().all(|a| *a == answer || permitted(&case, &answer, a)) {
-            allowed += 1;
-            continue;
-        }
-        differences += 1;
-        if differences <= SHOWN {
+        if tally.look(&case, &answer, &answers, port) && tally.differences <= SHOWN {
             println!("case: {case}\n  {}: {answer}", ours.name);
             rust.iter().zip(&answers).for_each(|(side, a)| println!("  {}: {a}", side.name));
         }
     }
     let ended = [&mut ours].into_iter().chain(&mut rust).fold(true, |well, side| ended_well(side) && well);
+    let Tally { landed, refused, unread, differences, permitted, points, elsewhere } = tally;
     println!(
         "compared {n} cases of {} (seed {seed}): {landed} landed or found something, {refused} refused, {unread} unreadable; \
-         {differences} differences, {allowed} permitted",
+         {differences} differences, {permitted} permitted",
         ops.join(",")
     );
+    if points > 0 {
+        println!("strokes and pies: {points} points landed, {elsewhere} of them elsewhere, where they may");
+    }
     differences == 0 && ended
 }
 

@@ -1,19 +1,24 @@
 //! The fixed list of cases: the edges first and in order, then the colours, then some random ones.
 
 mod boxes;
+mod curves;
 mod files;
 mod images;
+mod lines;
 
 use std::collections::HashSet;
 
-use crate::case::pixel_size;
+use crate::case::{Case, pixel_size};
 use crate::random::Cases;
+use crate::rule::decided;
 
 const MIN: i64 = i32::MIN as i64;
 const MAX: i64 = i32::MAX as i64;
 const MOST: i64 = u32::MAX as i64;
 const HALF: i64 = 1 << 31;
 const COLOR: &str = "128 200 100 50";
+/// A clip.
+const EVERYWHERE: &str = "-2147483648 -2147483648 4294967295 4294967295";
 
 /// The cases of these ops.
 pub fn fixed(ops: &[&'static str]) -> Vec<String> {
@@ -22,8 +27,11 @@ pub fn fixed(ops: &[&'static str]) -> Vec<String> {
         match op {
             "put" => put(&mut list),
             "get" => get(&mut list),
+            "line" => lines::line(&mut list),
             "rect" => boxes::rect(&mut list),
             "fill" => fill(&mut list),
+            "arc" | "pie" => curves::angled(op, &mut list),
+            "rrect" | "frrect" => curves::round(op, &mut list),
             "copy" => images::copy(&mut list),
             "invert" => boxes::invert(&mut list),
             "draw" => images::draw(&mut list),
@@ -34,9 +42,15 @@ pub fn fixed(ops: &[&'static str]) -> Vec<String> {
     }
     unreadable(&mut list);
     list.extend(Cases::new(300, 1, ops).filter(|case| case.len() <= 200));
+    list.retain(|line| same(line));
     let mut seen = HashSet::new();
     list.retain(|case| seen.insert(case.clone()));
     list
+}
+
+/// Whether the port's answer must be the Rust's.
+fn same(line: &str) -> bool {
+    Case::read(line.as_bytes()).is_none_or(|case| decided(&case.call, (case.screen.width, case.screen.height)))
 }
 
 /// Hex of so many bytes, no two neighbours alike.
@@ -182,7 +196,10 @@ fn refused(op: &str, list: &mut Vec<String>) {
     let args = match op {
         "put" => format!("0 0 {COLOR} 0 0 9 9"),
         "get" => "0 0".into(),
+        "line" => format!("0 0 1 1 {COLOR} 0 0 9 9"),
         "rect" | "fill" => format!("0 0 2 2 {COLOR} 0 0 9 9"),
+        "arc" | "pie" => format!("0 0 3 3 20 50 {COLOR} 0 0 9 9"),
+        "rrect" | "frrect" => format!("0 0 3 3 2 2 {COLOR} 0 0 9 9"),
         "copy" => "1 0 0 0 2 2 0 0 9 9".into(),
         "invert" => "0 0 2 2 0 0 9 9".into(),
         "draw" => "0 0 2 2 3 2 2 8 0 0 0 0 9 9".into(),

@@ -11,8 +11,10 @@ mod answer;
 mod canvas;
 mod case;
 mod compare;
+mod differ;
 mod fixed;
 mod random;
+mod rule;
 mod tally;
 
 use std::io::{self, BufRead, BufWriter, Write, stdin, stdout};

@@ -1,5 +1,8 @@
 //! Random cases, weighted so that most land something and the edges are met often.
 
+mod curves;
+mod lines;
+
 use crate::case::pixel_size;
 
 pub const OPS: [&str; 13] =
@@ -70,21 +73,24 @@ impl Chance {
         if op == "lbmp" {
             return self.lbmp();
         }
-        let (w, h) = self.sides();
+        let (w, h) = match op {
+            "line" => self.line_sides(),
+            "arc" | "rrect" => self.stroke_sides(),
+            _ => self.sides(),
+        };
         let head = self.head(w, h);
-        // Refusals for a shape are rarer than boxes that reach far.
-        let wild = if matches!(op, "arc" | "pie" | "rrect" | "frrect") { 1 } else { 4 };
+        let wild = 4;
         let args = match op {
             "put" => format!("{} {} {}", self.point(w, h, wild), self.color(), self.clip(w, h)),
             "get" => self.point(w, h, wild),
-            "line" => format!("{} {} {} {}", self.point(w, h, wild), self.point(w, h, wild), self.color(), self.clip(w, h)),
+            "line" => format!("{} {} {}", self.line(w, h), self.color(), self.clip(w, h)),
             "rect" | "fill" => format!("{} {} {}", self.area(w, h, wild), self.color(), self.clip(w, h)),
             "arc" | "pie" => {
-                let (area, angles) = (self.area(w, h, wild), format!("{} {}", self.angle(), self.angle()));
+                let (area, angles) = (self.round_area(w, h), format!("{} {}", self.angle(), self.angle()));
                 format!("{area} {angles} {} {}", self.color(), self.clip(w, h))
             }
             "rrect" | "frrect" => {
-                let (area, arc) = (self.area(w, h, wild), format!("{} {}", self.length(0, w, wild), self.length(0, h, wild)));
+                let (area, arc) = (self.round_area(w, h), format!("{} {}", self.arc_size(w), self.arc_size(h)));
                 format!("{area} {arc} {} {}", self.color(), self.clip(w, h))
             }
             "copy" => self.copy(w, h),

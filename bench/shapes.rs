@@ -1,0 +1,257 @@
+//! Lines and curves. Each is built in once its op stands in oracle/ops.
+
+use std::hint::black_box;
+
+use crate::canvas::{Canvas, Clip};
+use crate::{COLOR, Ours, pair_of, race, row, word};
+
+/// A screen on which every line has 320 plots.
+const SIDE: u32 = 320;
+const WHOLE: Clip = Clip { x: 0, y: 0, width: SIDE, height: SIDE };
+
+#[allow(dead_code)]
+unsafe extern "C" {
+    fn tuyrashka_draw_line(
+        format: u32,
+        width: u32,
+        height: u32,
+        xor: bool,
+        data: *mut u8,
+        length: usize,
+        x1: i32,
+        y1: i32,
+        x2: i32,
+        y2: i32,
+        argb: u32,
+        clip_x: i32,
+        clip_y: i32,
+        clip_w: u32,
+        clip_h: u32,
+        count: *mut u64,
+    ) -> u32;
+    fn tuyrashka_draw_arc(
+        format: u32,
+        width: u32,
+        height: u32,
+        xor: bool,
+        data: *mut u8,
+        length: usize,
+        x: i32,
+        y: i32,
+        w: u32,
+        h: u32,
+        start: i32,
+        sweep: i32,
+        argb: u32,
+        clip_x: i32,
+        clip_y: i32,
+        clip_w: u32,
+        clip_h: u32,
+        count: *mut u64,
+    ) -> u32;
+    fn tuyrashka_fill_arc(
+        format: u32,
+        width: u32,
+        height: u32,
+        xor: bool,
+        data: *mut u8,
+        length: usize,
+        x: i32,
+        y: i32,
+        w: u32,
+        h: u32,
+        start: i32,
+        sweep: i32,
+        argb: u32,
+        clip_x: i32,
+        clip_y: i32,
+        clip_w: u32,
+        clip_h: u32,
+        count: *mut u64,
+    ) -> u32;
+    fn tuyrashka_draw_round_rect(
+        format: u32,
+        width: u32,
+        height: u32,
+        xor: bool,
+        data: *mut u8,
+        length: usize,
+        x: i32,
+        y: i32,
+        w: u32,
+        h: u32,
+        arc_width: u32,
+        arc_height: u32,
+        argb: u32,
+        clip_x: i32,
+        clip_y: i32,
+        clip_w: u32,
+        clip_h: u32,
+        count: *mut u64,
+    ) -> u32;
+    fn tuyrashka_fill_round_rect(
+        format: u32,
+        width: u32,
+        height: u32,
+        xor: bool,
+        data: *mut u8,
+        length: usize,
+        x: i32,
+        y: i32,
+        w: u32,
+        h: u32,
+        arc_width: u32,
+        arc_height: u32,
+        argb: u32,
+        clip_x: i32,
+        clip_y: i32,
+        clip_w: u32,
+        clip_h: u32,
+        count: *mut u64,
+    ) -> u32;
+}
+
+#[derive(Clone, Copy)]
+enum Shape {
+    Line([i32; 4]),
+    /// Start and sweep, of a box of 200 by 200.
+    Arc(i32, i32),
+    Pie(i32, i32),
+    /// The arc size both ways, of the same box.
+    RoundRect(u32),
+    FillRoundRect(u32),
+}
+
+use Shape::{Arc, FillRoundRect, Line, Pie, RoundRect};
+
+const AT: i32 = 60;
+const BOX: u32 = 200;
+
+const SHAPES: [(&str, Shape); 13] = [
+    ("shallow", Line([0, 100, 319, 200])),
+    ("steep", Line([100, 0, 200, 319])),
+    ("diagonal", Line([0, 0, 319, 319])),
+    ("horizontal", Line([0, 100, 319, 100])),
+    ("vertical", Line([100, 0, 100, 319])),
+    ("arc", Arc(0, 360)),
+    ("part-arc", Arc(30, 170)),
+    ("pie", Pie(0, 360)),
+    ("part-pie", Pie(30, 170)),
+    ("corners", RoundRect(40)),
+    ("round", RoundRect(200)),
+    ("filled-corners", FillRoundRect(40)),
+    ("filled-round", FillRoundRect(200)),
+];
+
+impl Shape {
+    /// The call, and whether its op is there.
+    fn what(self) -> (&'static str, bool) {
+        match self {
+            Line(_) => ("draw_line", cfg!(op = "line")),
+            Arc(..) => ("draw_arc", cfg!(op = "arc")),
+            Pie(..) => ("fill_arc", cfg!(op = "pie")),
+            RoundRect(_) => ("draw_round_rect", cfg!(op = "rrect")),
+            FillRoundRect(_) => ("fill_round_rect", cfg!(op = "frrect")),
+        }
+    }
+
+    fn rust(self, canvas: &mut dyn Canvas) {
+        let canvas = black_box(canvas);
+        match self {
+            Line([x1, y1, x2, y2]) => canvas.draw_line(x1, y1, x2, y2, COLOR, WHOLE),
+            Arc(start, sweep) => canvas.draw_arc(AT, AT, BOX, BOX, start, sweep, COLOR, WHOLE),
+            Pie(start, sweep) => canvas.fill_arc(AT, AT, BOX, BOX, start, sweep, COLOR, WHOLE),
+            RoundRect(arc) => canvas.draw_round_rect(AT, AT, BOX, BOX, arc, arc, COLOR, WHOLE),
+            FillRoundRect(arc) => canvas.fill_round_rect(AT, AT, BOX, BOX, arc, arc, COLOR, WHOLE),
+        }
+    }
+
+    /// What the library does not have is not linked.
+    #[allow(unreachable_code, unreachable_patterns, unused)]
+    fn ours(self, on: &mut Ours) -> u64 {
+        let (mut count, data, length) = (0, on.bytes.as_mut_ptr(), on.bytes.len());
+        let (f, xor, k, n) = (on.format, on.xor, word(COLOR), &mut count);
+        let (s, x, w, Clip { x: cx, y: cy, width: cw, height: ch }) = (SIDE, AT, BOX, WHOLE);
+        let status: u32 = unsafe {
+            match self {
+                #[cfg(op = "line")]
+                Line([x1, y1, x2, y2]) => tuyrashka_draw_line(f, s, s, xor, data, length, x1, y1, x2, y2, k, cx, cy, cw, ch, n),
+                #[cfg(op = "arc")]
+                Arc(start, sweep) => {
+                    tuyrashka_draw_arc(f, s, s, xor, data, length, x, x, w, w, start, sweep, k, cx, cy, cw, ch, n)
+                }
+                #[cfg(op = "pie")]
+                Pie(start, sweep) => {
+                    tuyrashka_fill_arc(f, s, s, xor, data, length, x, x, w, w, start, sweep, k, cx, cy, cw, ch, n)
+                }
+                #[cfg(op = "rrect")]
+                RoundRect(arc) => {
+                    tuyrashka_draw_round_rect(f, s, s, xor, data, length, x, x, w, w, arc, arc, k, cx, cy, cw, ch, n)
+                }
+                #[cfg(op = "frrect")]
+                FillRoundRect(arc) => {
+                    tuyrashka_fill_round_rect(f, s, s, xor, data, length, x, x, w, w, arc, arc, k, cx, cy, cw, ch, n)
+                }
+                other => unreachable!("oracle/ops has not {}", other.what().0),
+            }
+        };
+        assert_eq!(status, 0);
+        count
+    }
+}
+
+fn built() -> impl Iterator<Item = (&'static str, Shape)> {
+    SHAPES.into_iter().filter(|(_, shape)| shape.what().1)
+}
+
+/// Of a curve a few points may be at another pixel.
+fn same(shape: Shape, canvas: &dyn Canvas, ours: &Ours) {
+    let bytes = canvas.image().raw();
+    let size = bytes.len() / (SIDE * SIDE) as usize;
+    let apart = bytes.chunks(size).zip(ours.bytes.chunks(size)).filter(|(rust, ours)| rust != ours).count();
+    let most = if matches!(shape, Line(_) | FillRoundRect(_)) { 0 } else { 8 };
+    assert!(apart <= most, "{apart} pixels of {} differ in format {}, XOR {}", shape.what().0, ours.format, ours.xor);
+}
+
+fn timed(note: &str, shape: Shape, format: u32, xor: bool) {
+    let (mut canvas, mut ours) = pair_of(format, xor, 7, (SIDE, SIDE));
+    shape.rust(&mut *canvas);
+    let landed = shape.ours(&mut ours);
+    same(shape, &*canvas, &ours);
+    let times = race(|| black_box(shape).rust(&mut *canvas), || _ = black_box(black_box(shape).ours(&mut ours)));
+    row(shape.what().0, format, xor, note, landed, times);
+}
+
+/// Lines on every format, curves on two.
+pub fn rows() {
+    if built().next().is_some() {
+        println!("\n| {SIDE} by {SIDE} | format | XOR | how | Rust, ns a plot | ours, ns a plot | ours / Rust |");
+        println!("|---|---|---|---|---|---|---|");
+    }
+    for (note, shape) in built() {
+        let formats: &[u32] = if matches!(shape, Line(_)) { &[0, 1, 2, 3, 4] } else { &[1, 3] };
+        for &format in formats {
+            [false, true].into_iter().for_each(|xor| timed(note, shape, format, xor));
+        }
+    }
+}
+
+/// The names that are built in, with the plots that land.
+pub fn names() {
+    for (name, shape) in built() {
+        println!("{name} {}", shape.ours(&mut pair_of(0, false, 7, (SIDE, SIDE)).1));
+    }
+}
+
+/// Whether there is such a shape; it is then drawn k times on one side.
+pub fn passes(name: &str, side: &str, format: u32, xor: bool, k: u32) -> bool {
+    let Some((_, shape)) = built().find(|(other, _)| *other == name) else { return false };
+    let (mut canvas, mut ours) = pair_of(format, xor, 7, (SIDE, SIDE));
+    for _ in 0..k {
+        match side {
+            "rust" => black_box(shape).rust(&mut *canvas),
+            _ => _ = black_box(black_box(shape).ours(&mut ours)),
+        }
+    }
+    true
+}
