@@ -19,6 +19,14 @@
 extern "C" {
 #endif
 
+/* Plots a line from (x1, y1) to (x2, y2), both ends included; *count is how many of its points are on the canvas and
+ * inside the clip. The way back plots other points in general. */
+uint32_t tuyrashka_draw_line(uint32_t format, uint32_t width, uint32_t height, bool xor_mode,
+                             uint8_t *data, size_t data_len,
+                             int32_t x1, int32_t y1, int32_t x2, int32_t y2, uint32_t argb,
+                             int32_t clip_x, int32_t clip_y, uint32_t clip_w, uint32_t clip_h,
+                             uint64_t *count);
+
 /* Plots each border point of the box once (all of it, where a side is 1); *count is how many are on the canvas and
  * inside the clip. */
 uint32_t tuyrashka_draw_rect(uint32_t format, uint32_t width, uint32_t height, bool xor_mode,

@@ -70,6 +70,13 @@ fn get(v: Canvas, bytes: &[u8], p: Point, out: &mut [u8]) -> usize
     reply(seen(canvas::get_pixel(v, bytes, p.x, p.y), bytes), out)
 }
 
+fn line(v: Canvas, bytes: &mut [u8], from: Point, to: Point, k: Paint, out: &mut [u8]) -> usize
+    ensures { λ r. ⌜ r ≤ length (now (out .entry)) ⌝ }
+{
+    let d = canvas::draw_line(v, bytes, from.x, from.y, to.x, to.y, k.color, k.clip);
+    reply(drawn(Name::Line, d, bytes), out)
+}
+
 fn rect(v: Canvas, bytes: &mut [u8], b: Boxed, out: &mut [u8]) -> usize
     ensures { λ r. ⌜ r ≤ length (now (out .entry)) ⌝ }
 {
@@ -243,12 +250,8 @@ pub(crate) fn run(v: Canvas, bytes: &mut [u8], c: Call, image: &[u8], out: &mut 
             from,
             clip,
         } => draw(v, bytes, corner, size, source, image, from, clip, out),
+        Call::Line { from, to, paint } => line(v, bytes, from, to, paint, out),
         // Until canvas has these calls.
-        Call::Line {
-            from: _,
-            to: _,
-            paint: _,
-        } => bad(out),
         Call::Arc(_) => bad(out),
         Call::Pie(_) => bad(out),
         Call::RoundRect(_) => bad(out),

@@ -42,6 +42,15 @@ pub answers-from : (b′ : List ℕ) (g : ℤ → ℤ → ℤ → ℤ → Clip �
 answers-from b′ g x y sx sy cx cy cw ch s n d fx fy fsx fsy fcx fcy es en h =
     answers b′ (λ i j z. g i j sx sy z) x y cx cy cw ch s n d fx fy fcx fcy es en (rw (toZ-ofZ w32 sx fsx, toZ-ofZ w32 sy fsy) at h)
 
+-- a drawing call of a colour with two numbers beside its point: a line's second end
+pub exports-from : (v : Canvas) (b b′ : List ℕ) (k : ℤ → ℤ → ℤ → ℤ → Color → Clip → Call) (x y sx sy cx cy : ℤ) (cw ch w s n : ℕ) (d : Drawn) (c : Color)
+    → SFits w32 x → SFits w32 y → SFits w32 sx → SFits w32 sy → SFits w32 cx → SFits w32 cy → c ≡ toColor (formatOf 3) w → s ≡ statusOf d → n ≡ countOf d
+    → leaves d b′ ≡ call v (k (toZ w32 (ofZ w32 x)) (toZ w32 (ofZ w32 y)) (toZ w32 (ofZ w32 sx)) (toZ w32 (ofZ w32 sy)) c (clip (toZ w32 (ofZ w32 cx)) (toZ w32 (ofZ w32 cy)) cw ch)) b
+    → outcome s n b′ ≡ call v (k x y sx sy (color w) (clip cx cy cw ch)) b
+unfolding formatOf
+exports-from v b b′ k x y sx sy cx cy cw ch w s n d c fx fy fsx fsy fcx fcy ec es en h =
+    answers-from b′ (λ i j p q z. call v (k i j p q (color w) z) b) x y sx sy cx cy cw ch s n d fx fy fsx fsy fcx fcy es en (rw ec at h)
+
 -- a pixel read
 pub shows : (v : Canvas) (b : List ℕ) (x y : ℤ) (p : Pixel) (t : Told) → SFits w32 x → SFits w32 y
     → t ≡ tells (reads p) → reads p ≡ pixelAt v b (toZ w32 (ofZ w32 x)) (toZ w32 (ofZ w32 y)) → t ≡ tells (pixelAt v b x y)

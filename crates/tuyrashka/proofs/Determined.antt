@@ -6,6 +6,7 @@ use denote.Ref.{now}
 use Rattle.canvas.specs.Call.{Outcome, outcome}
 use Rattle.tuyrashka.specs.Exported.{Told, told}
 use Rattle.tuyrashka.proofs.tuyrashka_put_pixel.Reads as put-pixel
+use Rattle.tuyrashka.proofs.tuyrashka_draw_line.Reads as draw-line
 use Rattle.tuyrashka.proofs.tuyrashka_draw_rect.Reads as draw-rect
 use Rattle.tuyrashka.proofs.tuyrashka_fill_rect.Reads as fill-rect
 use Rattle.tuyrashka.proofs.tuyrashka_invert_rect.Reads as invert-rect
@@ -22,6 +23,10 @@ same-told h = (ap (λ (t : Told). t .status) h, (ap (λ (t : Told). t .found) h,
 pub put-pixel-determined : (κs : _) (a : _) (s s' : _) (r r' : _) → put-pixel.Post κs a r s → put-pixel.Post κs a r' s'
     → (r ≡ r') × ((now (s .1 .1 .1 .1 .1 .1 .1 .1 .1 .1 .1 .1 .0) ≡ now (s' .1 .1 .1 .1 .1 .1 .1 .1 .1 .1 .1 .1 .0)) × (now (s .1 .1 .1 .1 .0) ≡ now (s' .1 .1 .1 .1 .0)))
 put-pixel-determined κs a s s' r r' p q = same-outcome (p ∙ sym q)
+
+pub draw-line-determined : (κs : _) (a : _) (s s' : _) (r r' : _) → draw-line.Post κs a r s → draw-line.Post κs a r' s'
+    → (r ≡ r') × ((now (s .1 .1 .1 .1 .1 .1 .1 .1 .1 .1 .1 .1 .1 .1 .0) ≡ now (s' .1 .1 .1 .1 .1 .1 .1 .1 .1 .1 .1 .1 .1 .1 .0)) × (now (s .1 .1 .1 .1 .0) ≡ now (s' .1 .1 .1 .1 .0)))
+draw-line-determined κs a s s' r r' p q = same-outcome (p ∙ sym q)
 
 pub draw-rect-determined : (κs : _) (a : _) (s s' : _) (r r' : _) → draw-rect.Post κs a r s → draw-rect.Post κs a r' s'
     → (r ≡ r') × ((now (s .1 .1 .1 .1 .1 .1 .1 .1 .1 .1 .1 .1 .1 .1 .0) ≡ now (s' .1 .1 .1 .1 .1 .1 .1 .1 .1 .1 .1 .1 .1 .1 .0)) × (now (s .1 .1 .1 .1 .0) ≡ now (s' .1 .1 .1 .1 .0)))

@@ -1,6 +1,6 @@
 // What C and Rust link: the calls on numbers and slices, declared in include/tuyrashka.h.
 ghost use mathlib.Core.Path.{_≡_};
-ghost use Rattle.canvas.specs.Call.{putPixel, drawRect, fillRect, draw, outcome, call};
+ghost use Rattle.canvas.specs.Call.{putPixel, drawLine, drawRect, fillRect, draw, outcome, call};
 ghost use Rattle.canvas.specs.Areas.{copyArea, invertRect};
 ghost use Rattle.canvas.specs.Look.{pixelAt};
 ghost use Rattle.tuyrashka.specs.Exported.{canvas, source, clip, color, told, tells};
@@ -43,6 +43,44 @@ pub extern "C" fn tuyrashka_put_pixel(
     };
     let k = words::to_color(3, argb);
     let d = canvas::put_pixel(v, bytes, x, y, k, c);
+    *count = d.count();
+    d.status()
+}
+
+#[no_mangle]
+pub extern "C" fn tuyrashka_draw_line(
+    format: u32,
+    width: u32,
+    height: u32,
+    xor: bool,
+    bytes: &mut [u8],
+    x1: i32,
+    y1: i32,
+    x2: i32,
+    y2: i32,
+    argb: u32,
+    cx: i32,
+    cy: i32,
+    cw: u32,
+    ch: u32,
+    count: &mut u64,
+) -> u32
+    ensures { λ r. ⌜ outcome r (now (count .exit)) (now (bytes .exit)) ≡ call (canvas format width height xor) (drawLine x1 y1 x2 y2 (color argb) (clip cx cy cw ch)) (now (bytes .entry)) ⌝ }
+{
+    let v = Canvas {
+        format: format,
+        width: width,
+        height: height,
+        xor: xor,
+    };
+    let c = Clip {
+        x: cx,
+        y: cy,
+        width: cw,
+        height: ch,
+    };
+    let k = words::to_color(3, argb);
+    let d = canvas::draw_line(v, bytes, x1, y1, x2, y2, k, c);
     *count = d.count();
     d.status()
 }
