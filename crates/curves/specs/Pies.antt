@@ -1,12 +1,14 @@
 -- Pies: which points of its box one takes. Definitions only.
-use Prim.Native.Nat.{ℕ}
-use mathlib.Core.Bool.{Bool, true, false, not, cond, _&&_}
+use mathlib.Core.Path.{_≡_}
+use Prim.Native.Nat.{ℕ, _+_, _≤_, _<_}
+use mathlib.Core.Bool.{Bool, true, false, cond}
 use lib.Dec.{T}
-use lib.IntN.{ℤ, pos}
+use lib.IntN.{ℤ, pos, natAbs, _+ℤ_}
+use lib.Signed.{leZ, ltZ}
 use lib.Ieee.{Float, binary32, ofInt, neg, add, sub, mul, div, lt, le, eq}
 use Rattle.number.specs.Size.{plusZero, absOf, maxOf}
 use Rattle.number.specs.Degrees.{turn, remEuclid360}
-use Rattle.angle.specs.Arctangent.{isHalves, arctangentOf}
+use Rattle.angle.specs.Arctangent.{isHalves, halvesOf, arctangentOf}
 use Rattle.angle.specs.Pie.{halfAxis, offset}
 use Rattle.curves.specs.declared.pies.Sweep.{Sweep}
 use Rattle.curves.specs.declared.pies.Pie.{Pie}
@@ -70,3 +72,19 @@ inPieAt p row i =
 pub record Apt (dx dy : Float) : Type 0 where
   pub up : T (isHalves (neg dy))
   pub right : T (isHalves dx)
+
+-- ---- the arctangent's domain
+
+-- p is a place of a canvas's side, and one of the w from x on, a side of a box that SHAPE lets pass.
+pub record Inside (x : ℤ) (w p : ℕ) : Type 0 where
+  pub corner : natAbs x ≤ 32768
+  pub side : w ≤ 32767
+  pub place : p ≤ 32767
+  pub from : leZ x (pos p) ≡ true
+  pub to : ltZ (pos p) (x +ℤ pos w) ≡ true
+
+-- "Arctangent of (up, right), multiples of a half up to 16,383 in size, not both zero"
+pub record Domain (y x : Float) : Type 0 where
+  pub up : T (isHalves y)
+  pub right : T (isHalves x)
+  pub some : 0 < halvesOf y + halvesOf x
