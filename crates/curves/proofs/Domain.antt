@@ -8,7 +8,7 @@ use native.Mathlib.Omega.{arith}
 use native.Mathlib.Decide.{decLt}
 use borrow.Author.Tests.{ltb-true, leb-true, lt-ltb, le-ltb}
 use lib.Dec.{T, eqb, leb, ltb, eqb→eq, lit<}
-use lib.IntN.{ℤ, pos, negsuc, natAbs, subℕ, _+ℤ_}
+use lib.IntN.{ℤ, pos, negsuc, _+ℤ_}
 use lib.Signed.{leZ, ltZ}
 use lib.Ieee.{Float, nan, inf, fin, binary32, up, down, round, neg, add, mul, sum, lt, unlike}
 use lib.Ieee.Fits.{down-pos, and-l}

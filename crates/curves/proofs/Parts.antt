@@ -1,8 +1,7 @@
 -- The tests by parts, of a shape, of a row and of a point, are the tests of 01. Assumes nothing.
 use mathlib.Core.Path.{_≡_, refl}
-use mathlib.Core.Bool.{Bool}
 use Prim.Native.Nat.{ℕ}
-use lib.IntN.{ℤ, pos}
+use lib.IntN.{ℤ}
 use Rattle.angle.specs.Pie.{offset}
 use Rattle.curves.specs.Ovals.{ovalOf}
 use Rattle.curves.specs.Pies.{pieOf, pieRowOf, acrossOf, inPieAt, inPie}

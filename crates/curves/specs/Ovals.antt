@@ -1,4 +1,4 @@
--- Ovals: centre and half axes, and the ellipse test. Definitions only.
+-- Ovals: centre and half axes; and two floats that the curves share. Definitions only.
 use Prim.Native.Nat.{ℕ}
 use mathlib.Core.Bool.{false}
 use lib.IntN.{ℤ, pos, negsuc}

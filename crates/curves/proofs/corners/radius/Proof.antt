@@ -1,9 +1,9 @@
 -- `radius` meets its contract: it is the definition, step by step. Assumes nothing.
 use borrow.Author.Needs.{needs}
-use mathlib.Core.Path.{_≡_, ap, _∙_}
+use mathlib.Core.Path.{_≡_}
 use Prim.Native.Nat.{ℕ, min}
 use mathlib.Core.Bool.{false}
-use lib.IntN.{pos, negsuc}
+use lib.IntN.{pos}
 use lib.Ieee.{Float, ofBits, fin, binary32, ofInt, div}
 use Rattle.number.specs.Size.{maxOf}
 use Rattle.curves.specs.Ovals.{half}

@@ -9,7 +9,7 @@ use mir.Val.{SFits, toZ, ofZ}
 use mir.ValLaws.{toZ-ofZ}
 use Rattle.number.specs.Whole.{roundAs}
 use Rattle.angle.specs.declared.sine.SineCosine.{SineCosine}
-use Rattle.angle.specs.Sine.{sineOf, cosineOf, sineCosineOf}
+use Rattle.angle.specs.Sine.{sineCosineOf}
 use Rattle.angle.specs.Stroke.{strokeAngle}
 use Rattle.curves.specs.declared.ovals.Oval.{Oval}
 use Rattle.curves.specs.declared.strokes.Spot.{Spot}
