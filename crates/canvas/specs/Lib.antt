@@ -4,6 +4,7 @@ pub mod Clip
 pub mod Plot
 pub mod Lines
 pub mod Boxes
+pub mod Strokes
 pub mod Call
 pub mod Calls
 pub mod Areas

@@ -14,8 +14,10 @@ mod lines;
 mod look;
 mod pictures;
 mod plot;
+mod rounds;
 mod rows;
 mod span;
+mod strokes;
 
 pub use areas::invert_rect;
 pub use boxes::draw_rect;

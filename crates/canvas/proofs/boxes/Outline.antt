@@ -204,7 +204,7 @@ sides v f p q w h =
     ++ (inks f (fill v (lowered p) (lowered (q + (h - 1))) w 1)
     ++ (inks f (fill v (lowered p) (lowered (q + 1)) 1 (h - 2)) ++ inks f (fill v (lowered (p + (w - 1))) (lowered (q + 1)) 1 (h - 2))))
 
-lowered-add : (u k : ℕ) → lowered u +ℤ pos k ≡ lowered (u + k)
+pub lowered-add : (u k : ℕ) → lowered u +ℤ pos k ≡ lowered (u + k)
 unfolding lowered
 lowered-add u k = ap (λ (z : ℤ). subℕ u 2147483648 +ℤ z) (ap pos (omega arith) ∙ sym (sub-pos k 0 (omega arith))) ∙ sub-add u 2147483648 k 0
 

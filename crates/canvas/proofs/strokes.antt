@@ -1,0 +1,3 @@
+-- The laws of strokes.
+pub mod Stroking
+pub mod Chains

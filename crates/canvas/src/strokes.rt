@@ -1,0 +1,150 @@
+// Strokes: arcs, and the quarters of a round rectangle's corners.
+ghost use mathlib.Core.Path.{_≡_};
+ghost use Prim.Native.Nat.{suc, _≤_, _<_};
+ghost use Rattle.words.specs.Ink.{inked};
+ghost use Rattle.canvas.specs.Bytes.{size};
+ghost use Rattle.canvas.specs.Faults.{Sized};
+ghost use Rattle.canvas.specs.Plot.{inks};
+ghost use Rattle.canvas.specs.Strokes.{pointOf, strokeFrom, stroke, quarters};
+ghost use Rattle.canvas.specs.Walk.{plus, work, dabbed, dabs, Fits, Did, Fields};
+use crate::Canvas;
+use crate::Clip;
+use crate::Tally;
+use crate::plot::dab;
+use crate::span::Span;
+use crate::span::lift;
+use crate::span::window;
+use curves::corners::Corners;
+use curves::corners::corner;
+use curves::ovals::Oval;
+use curves::strokes::Spot;
+use words::Ink;
+
+// The plot of one point.
+fn dab_spot(
+    canvas: Canvas,
+    b: &mut [u8],
+    xs: Span,
+    ys: Span,
+    n: usize,
+    s: Spot,
+    ink: Ink,
+    t: Tally,
+) -> Tally
+    requires { ⌜ (Sized canvas (now b)) × ((Fields canvas xs ys) × ((n ≡ size canvas) × (Fits (plus t 1)))) ⌝ }
+    ensures { λ r. ⌜ work (now (b .exit)) r ≡ dabbed canvas xs ys (inked ink) (pointOf s) (work (now (b .entry)) t) ⌝ }
+{
+    let p = lift(s.x);
+    let q = lift(s.y);
+    dab(canvas, b, xs, ys, n, p, q, ink, t)
+}
+
+// The plots of a stroke of so many steps, the first and the last included.
+fn stroke_steps(
+    canvas: Canvas,
+    b: &mut [u8],
+    xs: Span,
+    ys: Span,
+    n: usize,
+    o: Oval,
+    start: f32,
+    sweep: f32,
+    steps: u32,
+    ink: Ink,
+    t0: Tally,
+) -> Tally
+    requires { ⌜ (Sized canvas (now b)) × ((Fields canvas xs ys) × ((n ≡ size canvas) × ((steps ≤ 1048544) × (t0 .landed < 9223372036854775808)))) ⌝ }
+    ensures { λ r. ⌜ work (now (b .exit)) r ≡ dabs canvas xs ys (inked ink) (strokeFrom o start sweep steps 0 (suc steps)) (work (now (b .entry)) t0) ⌝ }
+{
+    let mut t = t0;
+    let mut i = 0u32;
+    while i <= steps {
+        let s = curves::strokes::stroke_point(o, start, sweep, i, steps);
+        t = dab_spot(canvas, b, xs, ys, n, s, ink, t);
+        i = i + 1;
+    }
+    t
+}
+
+// The plots of a stroke; start and sweep are in radians.
+pub(crate) fn stroke_in(
+    canvas: Canvas,
+    b: &mut [u8],
+    o: Oval,
+    start: f32,
+    sweep: f32,
+    ink: Ink,
+    clip: Clip,
+    t: Tally,
+) -> Tally
+    requires { ⌜ (Sized canvas (now b)) × (t .landed < 9223372036854775808) ⌝ }
+    ensures { λ r. ⌜ Did canvas clip (inks (inked ink) (stroke canvas o start sweep)) (work (now (b .entry)) t) (work (now (b .exit)) r) ⌝ }
+{
+    let xs = window(clip.x, clip.width, canvas.width);
+    let ys = window(clip.y, clip.height, canvas.height);
+    let steps = curves::strokes::steps(o, sweep, canvas.width, canvas.height) as u32;
+    let f = canvas.format;
+    match f {
+        0 => stroke_steps(canvas, b, xs, ys, 1, o, start, sweep, steps, ink, t),
+        1 => stroke_steps(canvas, b, xs, ys, 2, o, start, sweep, steps, ink, t),
+        _ => stroke_steps(canvas, b, xs, ys, 4, o, start, sweep, steps, ink, t),
+    }
+}
+
+// The plots of the quarters at the corners of a round rectangle.
+pub(crate) fn quarters_in(
+    canvas: Canvas,
+    b: &mut [u8],
+    c: Corners,
+    ink: Ink,
+    clip: Clip,
+    t: Tally,
+) -> Tally
+    requires { ⌜ (Sized canvas (now b)) × (t .landed < 4611686018427387904) ⌝ }
+    ensures { λ r. ⌜ Did canvas clip (inks (inked ink) (quarters canvas c)) (work (now (b .entry)) t) (work (now (b .exit)) r) ⌝ }
+{
+    let quarter = number::radians(90.0);
+    let first = number::radians(0.0);
+    let half = number::radians(180.0);
+    let last = number::radians(270.0);
+    let t1 = stroke_in(
+        canvas,
+        b,
+        corner(c, true, false),
+        first,
+        quarter,
+        ink,
+        clip,
+        t,
+    );
+    let t2 = stroke_in(
+        canvas,
+        b,
+        corner(c, false, false),
+        quarter,
+        quarter,
+        ink,
+        clip,
+        t1,
+    );
+    let t3 = stroke_in(
+        canvas,
+        b,
+        corner(c, false, true),
+        half,
+        quarter,
+        ink,
+        clip,
+        t2,
+    );
+    stroke_in(
+        canvas,
+        b,
+        corner(c, true, true),
+        last,
+        quarter,
+        ink,
+        clip,
+        t3,
+    )
+}
