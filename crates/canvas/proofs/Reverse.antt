@@ -21,7 +21,7 @@ use Rattle.canvas.specs.declared.faults.Verdict.the-variants.{Sound, Fau
 use Rattle.canvas.specs.Bytes.{form, On}
 use Rattle.canvas.specs.Faults.{orElse, verdict}
 use Rattle.canvas.specs.Plot.{Point, Dot, tint, plot, dip, landed, fate, Hit, hitOf, hits, paint}
-use Rattle.canvas.specs.Call.{Call, putPixel, drawRect, fillRect, draw, clipOf, faultOf, sourceColor, dots, brush, plots, ruled, drawing, call}
+use Rattle.canvas.specs.Call.{Call, putPixel, drawRect, fillRect, fillArc, fillRoundRect, draw, clipOf, faultOf, sourceColor, dots, brush, plots, ruled, drawing, call}
 use Rattle.canvas.specs.Boxes.{each, picture}
 use Rattle.canvas.specs.Calls.{after, unless, landing}
 use Rattle.canvas.proofs.bytes.Cells.{Bytes}
@@ -35,6 +35,8 @@ abbrev pub Colored : Call → Type 0
 Colored (putPixel x y color clip) = Channels color
 Colored (drawRect x y w h color clip) = Channels color
 Colored (fillRect x y w h color clip) = Channels color
+Colored (fillArc x y w h start arc color clip) = Channels color
+Colored (fillRoundRect x y w h aw ah color clip) = Channels color
 Colored (draw dx dy w h source image sx sy clip) = Unit {0}
 
 pub data Fine : List Call → Type 0 where
@@ -48,6 +50,8 @@ abbrev pub shade : Call → Color → Color
 shade (putPixel x y color clip) c = c
 shade (drawRect x y w h color clip) c = c
 shade (fillRect x y w h color clip) c = c
+shade (fillArc x y w h start arc color clip) c = c
+shade (fillRoundRect x y w h aw ah color clip) c = c
 shade (draw dx dy w h source image sx sy clip) c = scaled c
 
 pub record Shaded (v : Canvas) (k : Call) (c : Color) : Type 0 where
@@ -95,6 +99,8 @@ unfolding dots
 shaded v x (putPixel px py color clip) c = tinted v _ color _ (record { channels = c; alike = refl; plain = ap (λ (t : Bool). plotWord (form v) t color) x })
 shaded v x (drawRect px py w h color clip) c = tinted v _ color _ (record { channels = c; alike = refl; plain = ap (λ (t : Bool). plotWord (form v) t color) x })
 shaded v x (fillRect px py w h color clip) c = tinted v _ color _ (record { channels = c; alike = refl; plain = ap (λ (t : Bool). plotWord (form v) t color) x })
+shaded v x (fillArc px py w h start arc color clip) c = tinted v _ color _ (record { channels = c; alike = refl; plain = ap (λ (t : Bool). plotWord (form v) t color) x })
+shaded v x (fillRoundRect px py w h aw ah color clip) c = tinted v _ color _ (record { channels = c; alike = refl; plain = ap (λ (t : Bool). plotWord (form v) t color) x })
 shaded v x (draw dx dy w h source image sx sy clip) c =
     pictured v _ (sourceColor source image dx dy sx sy)
     (λ i j. let k : Color = sourceColor source image dx dy sx sy i j in

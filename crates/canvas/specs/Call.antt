@@ -14,20 +14,25 @@ use Rattle.canvas.specs.declared.Drawn.the-variants.{Refused, Done}
 use Rattle.canvas.specs.declared.faults.Verdict.{Verdict}
 use Rattle.canvas.specs.declared.faults.Verdict.the-variants.{Sound, Faulty}
 use Rattle.canvas.specs.Bytes.{form, loadAt}
-use Rattle.canvas.specs.Faults.{number, orElse, verdict, asSource}
+use Rattle.canvas.specs.Faults.{number, orElse, verdict, asSource, shapeFault, arcFault}
 use Rattle.canvas.specs.Plot.{Plot, at, Dot, tint, dip, hits, paint}
 use Rattle.canvas.specs.Boxes.{fill, outline, picture, sourceOf, shown}
+use Rattle.canvas.specs.Curves.{pie, roundFill}
 
 pub data Call : Type 0 where
   putPixel : ℤ → ℤ → Color → Clip → Call
   drawRect : ℤ → ℤ → ℕ → ℕ → Color → Clip → Call
   fillRect : ℤ → ℤ → ℕ → ℕ → Color → Clip → Call
+  fillArc : ℤ → ℤ → ℕ → ℕ → ℤ → ℤ → Color → Clip → Call
+  fillRoundRect : ℤ → ℤ → ℕ → ℕ → ℕ → ℕ → Color → Clip → Call
   draw : ℤ → ℤ → ℕ → ℕ → Canvas → List ℕ → ℤ → ℤ → Clip → Call
 
 abbrev pub clipOf : Call → Clip
 clipOf (putPixel x y color clip) = clip
 clipOf (drawRect x y w h color clip) = clip
 clipOf (fillRect x y w h color clip) = clip
+clipOf (fillArc x y w h start arc color clip) = clip
+clipOf (fillRoundRect x y w h aw ah color clip) = clip
 clipOf (draw dx dy w h source image sx sy clip) = clip
 
 -- Its faults beside those of the canvas.
@@ -35,6 +40,8 @@ abbrev pub faultOf : Call → Verdict
 faultOf (putPixel x y color clip) = Sound
 faultOf (drawRect x y w h color clip) = Sound
 faultOf (fillRect x y w h color clip) = Sound
+faultOf (fillArc x y w h start arc color clip) = arcFault x y w h start arc
+faultOf (fillRoundRect x y w h aw ah color clip) = shapeFault x y w h
 faultOf (draw dx dy w h source image sx sy clip) = asSource (verdict source (length image))
 
 -- The colour of the source that comes to a pixel.
@@ -46,6 +53,8 @@ unfoldable pub dots : Canvas → Call → List Dot
 dots v (putPixel x y color clip) = tint color (at x y ∷ [])
 dots v (drawRect x y w h color clip) = tint color (outline v x y w h)
 dots v (fillRect x y w h color clip) = tint color (fill v x y w h)
+dots v (fillArc x y w h start arc color clip) = tint color (pie v x y w h start arc)
+dots v (fillRoundRect x y w h aw ah color clip) = tint color (roundFill v x y w h aw ah)
 dots v (draw dx dy w h source image sx sy clip) =
     picture (sourceColor source image dx dy sx sy) (shown dx sx w (source .width) (v .width)) (shown dy sy h (source .height) (v .height))
 
@@ -54,6 +63,8 @@ abbrev pub brush : Canvas → Call → Color → ℕ → ℕ
 brush v (putPixel x y color clip) = plotWord (form v) (v .xor)
 brush v (drawRect x y w h color clip) = plotWord (form v) (v .xor)
 brush v (fillRect x y w h color clip) = plotWord (form v) (v .xor)
+brush v (fillArc x y w h start arc color clip) = plotWord (form v) (v .xor)
+brush v (fillRoundRect x y w h aw ah color clip) = plotWord (form v) (v .xor)
 brush v (draw dx dy w h source image sx sy clip) = blendWord (form v) (v .xor)
 
 abbrev pub plots : Canvas → Call → List Plot

@@ -3,8 +3,10 @@ pub mod Faults
 pub mod Clip
 pub mod Plot
 pub mod Boxes
+pub mod Curves
 pub mod Call
 pub mod Calls
 pub mod Areas
 pub mod Look
 pub mod Walk
+pub mod Sift

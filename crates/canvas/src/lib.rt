@@ -11,6 +11,7 @@ mod chunks;
 mod copy;
 mod faults;
 mod look;
+mod ovals;
 mod pictures;
 mod plot;
 mod rows;
@@ -21,6 +22,8 @@ pub use boxes::draw_rect;
 pub use boxes::fill_rect;
 pub use copy::copy_area;
 pub use look::get_pixel;
+pub use ovals::fill_arc;
+pub use ovals::fill_round_rect;
 pub use pictures::draw;
 pub use plot::put_pixel;
 use words::Color;
@@ -46,6 +49,8 @@ pub enum Refusal {
     Size,
     Length,
     Source,
+    Angle,
+    Shape,
 }
 
 // What became of the plots so far.
@@ -76,6 +81,8 @@ impl Refusal {
             Refusal::Size => 2,
             Refusal::Length => 3,
             Refusal::Source => 4,
+            Refusal::Angle => 5,
+            Refusal::Shape => 6,
         }
     }
 }
