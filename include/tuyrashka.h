@@ -4,8 +4,9 @@
  * little-endian. Formats: 0 RGB332 (1 byte), 1 RGB565 (2), 2 RGB8, 3 ARGB, 4 ABGR (4 each).
  *
  * Each call returns 0, or 1 FORMAT (above 4), 2 SIZE (a side above 32,767), 3 LENGTH (data_len is not the exact byte
- * size), 4 SOURCE (tuyrashka_draw: 1, 2 or 3 holds of the source), the lowest that holds; the bytes then stay as they
- * were and *count is 0. A colour is a<<24 | r<<16 | g<<8 | b.
+ * size), 4 SOURCE (tuyrashka_draw: 1, 2 or 3 holds of the source), 5 ANGLE (pies: an angle outside -720..720), 6 SHAPE
+ * (pies and round rectangles: x or y outside -32,768..32,767, or w or h above 32,767), the lowest that holds; the bytes
+ * then stay as they were and *count is 0. A colour is a<<24 | r<<16 | g<<8 | b.
  * No pointer is null, also where data_len is 0, and what they point to does not overlap.
  */
 #ifndef TUYRASHKA_H
@@ -41,6 +42,24 @@ uint32_t tuyrashka_fill_rect(uint32_t format, uint32_t width, uint32_t height, b
                              int32_t x, int32_t y, uint32_t w, uint32_t h, uint32_t argb,
                              int32_t clip_x, int32_t clip_y, uint32_t clip_w, uint32_t clip_h,
                              uint64_t *count);
+
+/* Fills the pie of the box's oval from start_angle on, arc_angle degrees of it, counter-clockwise where that is not
+ * negative; *count is the number of its pixels that are on the canvas and inside the clip. */
+uint32_t tuyrashka_fill_arc(uint32_t format, uint32_t width, uint32_t height, bool xor_mode,
+                            uint8_t *data, size_t data_len,
+                            int32_t x, int32_t y, uint32_t w, uint32_t h,
+                            int32_t start_angle, int32_t arc_angle, uint32_t argb,
+                            int32_t clip_x, int32_t clip_y, uint32_t clip_w, uint32_t clip_h,
+                            uint64_t *count);
+
+/* Fills the box with round corners, arc_width and arc_height being the sides of their oval; where one is 0, the plain
+ * box. *count is the number of pixels filled that are on the canvas and inside the clip. */
+uint32_t tuyrashka_fill_round_rect(uint32_t format, uint32_t width, uint32_t height, bool xor_mode,
+                                   uint8_t *data, size_t data_len,
+                                   int32_t x, int32_t y, uint32_t w, uint32_t h,
+                                   uint32_t arc_width, uint32_t arc_height, uint32_t argb,
+                                   int32_t clip_x, int32_t clip_y, uint32_t clip_w, uint32_t clip_h,
+                                   uint64_t *count);
 
 /* Inverts the colours of the part of the box that is on the canvas and inside the clip, whatever xor_mode is, and keeps
  * alpha; *count is its number of pixels. */

@@ -5,7 +5,7 @@ use Prim.Native.Nat.{ℕ, zero, suc}
 use denote.Ref.{now}
 use native.Mathlib.Omega.{arith}
 use Rattle.canvas.specs.declared.Refusal.{Refusal}
-use Rattle.canvas.specs.declared.Refusal.the-variants.{Format, Size, Length, Source}
+use Rattle.canvas.specs.declared.Refusal.the-variants.{Format, Size, Length, Source, Angle, Shape}
 use Rattle.canvas.specs.declared.Drawn.{Drawn}
 use Rattle.canvas.specs.declared.Drawn.the-variants.{Refused, Done}
 use Rattle.canvas.specs.declared.Pixel.{Pixel}
@@ -18,6 +18,8 @@ use Rattle.canvas.proofs.lines.draw_line.Reads as draw-line
 use Rattle.canvas.proofs.plot.put_pixel.Reads as put-pixel
 use Rattle.canvas.proofs.boxes.draw_rect.Reads as draw-rect
 use Rattle.canvas.proofs.boxes.fill_rect.Reads as fill-rect
+use Rattle.canvas.proofs.ovals.fill_arc.Reads as fill-arc
+use Rattle.canvas.proofs.ovals.fill_round_rect.Reads as fill-round-rect
 use Rattle.canvas.proofs.areas.invert_rect.Reads as invert-rect
 use Rattle.canvas.proofs.copy.copy_area.Reads as copy-area
 use Rattle.canvas.proofs.pictures.draw.Reads as draw
@@ -35,7 +37,9 @@ refusal zero = Source
 refusal (suc zero) = Format
 refusal (suc (suc zero)) = Size
 refusal (suc (suc (suc zero))) = Length
-refusal (suc (suc (suc (suc n)))) = Source
+refusal (suc (suc (suc (suc zero)))) = Source
+refusal (suc (suc (suc (suc (suc zero))))) = Angle
+refusal (suc (suc (suc (suc (suc (suc n)))))) = Shape
 
 numbered : (r : Refusal) → refusal (number r) ≡ r
 unfolding number refusal
@@ -43,6 +47,8 @@ numbered Format = refl
 numbered Size = refl
 numbered Length = refl
 numbered Source = refl
+numbered Angle = refl
+numbered Shape = refl
 
 same-number : (r s : Refusal) → number r ≡ number s → r ≡ s
 same-number r s e = sym (numbered r) ∙ ap refusal e ∙ numbered s
@@ -53,6 +59,8 @@ no-zero Format e = omega arith
 no-zero Size e = omega arith
 no-zero Length e = omega arith
 no-zero Source e = omega arith
+no-zero Angle e = omega arith
+no-zero Shape e = omega arith
 
 same-drawn : (d e : Drawn) → statusOf d ≡ statusOf e → countOf d ≡ countOf e → d ≡ e
 unfolding statusOf countOf
@@ -94,6 +102,12 @@ fill-rect-determined κs a s s' r r' p q = leaves-same r r' (now (s .1 .0)) (now
 
 pub draw-rect-determined : (κs : _) (a : _) (s s' : _) (r r' : _) → draw-rect.Post κs a r s → draw-rect.Post κs a r' s' → (r ≡ r') × (now (s .1 .0) ≡ now (s' .1 .0))
 draw-rect-determined κs a s s' r r' p q = leaves-same r r' (now (s .1 .0)) (now (s' .1 .0)) (p ∙ sym q)
+
+pub fill-arc-determined : (κs : _) (a : _) (s s' : _) (r r' : _) → fill-arc.Post κs a r s → fill-arc.Post κs a r' s' → (r ≡ r') × (now (s .1 .0) ≡ now (s' .1 .0))
+fill-arc-determined κs a s s' r r' p q = leaves-same r r' (now (s .1 .0)) (now (s' .1 .0)) (p ∙ sym q)
+
+pub fill-round-rect-determined : (κs : _) (a : _) (s s' : _) (r r' : _) → fill-round-rect.Post κs a r s → fill-round-rect.Post κs a r' s' → (r ≡ r') × (now (s .1 .0) ≡ now (s' .1 .0))
+fill-round-rect-determined κs a s s' r r' p q = leaves-same r r' (now (s .1 .0)) (now (s' .1 .0)) (p ∙ sym q)
 
 pub invert-rect-determined : (κs : _) (a : _) (s s' : _) (r r' : _) → invert-rect.Post κs a r s → invert-rect.Post κs a r' s' → (r ≡ r') × (now (s .1 .0) ≡ now (s' .1 .0))
 invert-rect-determined κs a s s' r r' p q = leaves-same r r' (now (s .1 .0)) (now (s' .1 .0)) (p ∙ sym q)

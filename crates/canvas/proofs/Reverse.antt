@@ -21,7 +21,7 @@ use Rattle.canvas.specs.declared.faults.Verdict.the-variants.{Sound, Fau
 use Rattle.canvas.specs.Bytes.{form, On}
 use Rattle.canvas.specs.Faults.{orElse, verdict}
 use Rattle.canvas.specs.Plot.{Point, Dot, tint, plot, dip, landed, fate, Hit, hitOf, hits, paint}
-use Rattle.canvas.specs.Call.{Call, putPixel, drawLine, drawRect, fillRect, draw, clipOf, faultOf, sourceColor, dots, brush, plots, ruled, drawing, call}
+use Rattle.canvas.specs.Call.{Call, putPixel, drawLine, drawRect, fillRect, drawArc, fillArc, drawRoundRect, fillRoundRect, draw, clipOf, faultOf, sourceColor, dots, brush, plots, ruled, drawing, call}
 use Rattle.canvas.specs.Boxes.{each, picture}
 use Rattle.canvas.specs.Calls.{after, unless, landing}
 use Rattle.canvas.proofs.bytes.Cells.{Bytes}
@@ -36,6 +36,10 @@ Colored (putPixel x y color clip) = Channels color
 Colored (drawLine x1 y1 x2 y2 color clip) = Channels color
 Colored (drawRect x y w h color clip) = Channels color
 Colored (fillRect x y w h color clip) = Channels color
+Colored (drawArc x y w h start arc color clip) = Channels color
+Colored (fillArc x y w h start arc color clip) = Channels color
+Colored (drawRoundRect x y w h aw ah color clip) = Channels color
+Colored (fillRoundRect x y w h aw ah color clip) = Channels color
 Colored (draw dx dy w h source image sx sy clip) = Unit {0}
 
 pub data Fine : List Call → Type 0 where
@@ -50,6 +54,10 @@ shade (putPixel x y color clip) c = c
 shade (drawLine x1 y1 x2 y2 color clip) c = c
 shade (drawRect x y w h color clip) c = c
 shade (fillRect x y w h color clip) c = c
+shade (drawArc x y w h start arc color clip) c = c
+shade (fillArc x y w h start arc color clip) c = c
+shade (drawRoundRect x y w h aw ah color clip) c = c
+shade (fillRoundRect x y w h aw ah color clip) c = c
 shade (draw dx dy w h source image sx sy clip) c = scaled c
 
 pub record Shaded (v : Canvas) (k : Call) (c : Color) : Type 0 where
@@ -98,6 +106,10 @@ shaded v x (putPixel px py color clip) c = tinted v _ color _ (record { channels
 shaded v x (drawLine x1 y1 x2 y2 color clip) c = tinted v _ color _ (record { channels = c; alike = refl; plain = ap (λ (t : Bool). plotWord (form v) t color) x })
 shaded v x (drawRect px py w h color clip) c = tinted v _ color _ (record { channels = c; alike = refl; plain = ap (λ (t : Bool). plotWord (form v) t color) x })
 shaded v x (fillRect px py w h color clip) c = tinted v _ color _ (record { channels = c; alike = refl; plain = ap (λ (t : Bool). plotWord (form v) t color) x })
+shaded v x (drawArc px py w h start arc color clip) c = tinted v _ color _ (record { channels = c; alike = refl; plain = ap (λ (t : Bool). plotWord (form v) t color) x })
+shaded v x (fillArc px py w h start arc color clip) c = tinted v _ color _ (record { channels = c; alike = refl; plain = ap (λ (t : Bool). plotWord (form v) t color) x })
+shaded v x (drawRoundRect px py w h aw ah color clip) c = tinted v _ color _ (record { channels = c; alike = refl; plain = ap (λ (t : Bool). plotWord (form v) t color) x })
+shaded v x (fillRoundRect px py w h aw ah color clip) c = tinted v _ color _ (record { channels = c; alike = refl; plain = ap (λ (t : Bool). plotWord (form v) t color) x })
 shaded v x (draw dx dy w h source image sx sy clip) c =
     pictured v _ (sourceColor source image dx dy sx sy)
     (λ i j. let k : Color = sourceColor source image dx dy sx sy i j in

@@ -1,13 +1,15 @@
--- Which canvases are refused, and by which number.
-use mathlib.Core.Bool.{cond}
+-- Which canvases, angles and boxes are refused, and by which number.
+use mathlib.Core.Bool.{Bool, cond, _||_}
 use mathlib.Core.List.{List}
 use mathlib.Core.Path.{_≡_}
 use Prim.Native.Nat.{ℕ, _≤_}
 use lib.Dec.{ltb, eqb}
+use lib.IntN.{ℤ, pos, negsuc, natAbs}
 use lib.ListN.{length}
+use lib.Signed.{ltZ}
 use Rattle.canvas.specs.declared.Canvas.{Canvas}
 use Rattle.canvas.specs.declared.Refusal.{Refusal}
-use Rattle.canvas.specs.declared.Refusal.the-variants.{Format, Size, Length, Source}
+use Rattle.canvas.specs.declared.Refusal.the-variants.{Format, Size, Length, Source, Angle, Shape}
 use Rattle.canvas.specs.declared.faults.Verdict.{Verdict}
 use Rattle.canvas.specs.declared.faults.Verdict.the-variants.{Sound, Faulty}
 use Rattle.canvas.specs.Bytes.{extent}
@@ -18,6 +20,8 @@ number Format = 1
 number Size = 2
 number Length = 3
 number Source = 4
+number Angle = 5
+number Shape = 6
 
 -- "1 FORMAT: format above 4"
 unfoldable pub formatFault : Canvas → Verdict
@@ -44,9 +48,33 @@ abbrev pub asSource : Verdict → Verdict
 asSource Sound = Sound
 asSource (Faulty r) = Faulty Source
 
+-- Below the one or above the other.
+abbrev pub outside : ℤ → ℤ → ℤ → Bool
+outside low high a = ltZ a low || ltZ high a
+
+-- "5 ANGLE: arc or pie: start or arc angle outside -720..720"
+unfoldable pub angleFault : ℤ → ℤ → Verdict
+angleFault start arc = cond (outside (negsuc 719) (pos 720) start) (Faulty Angle) (cond (outside (negsuc 719) (pos 720) arc) (Faulty Angle) Sound)
+
+-- "6 SHAPE: arcs, pies, round rectangles: x or y outside -32,768..32,767, or w or h above 32,767"
+unfoldable pub shapeFault : ℤ → ℤ → ℕ → ℕ → Verdict
+shapeFault x y w h =
+    cond (outside (negsuc 32767) (pos 32767) x) (Faulty Shape) (cond (outside (negsuc 32767) (pos 32767) y) (Faulty Shape)
+    (cond (ltb 32767 w) (Faulty Shape) (cond (ltb 32767 h) (Faulty Shape) Sound)))
+
+unfoldable pub arcFault : ℤ → ℤ → ℕ → ℕ → ℤ → ℤ → Verdict
+arcFault x y w h start arc = orElse (angleFault start arc) (shapeFault x y w h)
+
 -- What an inner function may count on: a canvas that is not refused.
 pub record Sized (v : Canvas) (b : List ℕ) : Type 0 where
   pub known : v .format ≤ 4
   pub wide : v .width ≤ 32767
   pub high : v .height ≤ 32767
   pub long : length b ≡ extent v
+
+-- A box that SHAPE lets pass.
+pub record Shaped (x y : ℤ) (w h : ℕ) : Type 0 where
+  pub left : natAbs x ≤ 32768
+  pub top : natAbs y ≤ 32768
+  pub wide : w ≤ 32767
+  pub high : h ≤ 32767

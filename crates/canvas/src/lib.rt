@@ -12,6 +12,7 @@ mod copy;
 mod faults;
 mod lines;
 mod look;
+mod ovals;
 mod pictures;
 mod plot;
 mod rounds;
@@ -25,6 +26,8 @@ pub use boxes::fill_rect;
 pub use copy::copy_area;
 pub use lines::draw_line;
 pub use look::get_pixel;
+pub use ovals::fill_arc;
+pub use ovals::fill_round_rect;
 pub use pictures::draw;
 pub use plot::put_pixel;
 use words::Color;
@@ -50,6 +53,8 @@ pub enum Refusal {
     Size,
     Length,
     Source,
+    Angle,
+    Shape,
 }
 
 // What became of the plots so far.
@@ -80,6 +85,8 @@ impl Refusal {
             Refusal::Size => 2,
             Refusal::Length => 3,
             Refusal::Source => 4,
+            Refusal::Angle => 5,
+            Refusal::Shape => 6,
         }
     }
 }

@@ -48,7 +48,7 @@ fn row4(canvas: Canvas, b: &mut [u8], y: usize, x0: usize, x1: usize, ink: Ink)
 }
 
 // A part of a row.
-fn ink_row(canvas: Canvas, b: &mut [u8], y: usize, x0: usize, x1: usize, ink: Ink)
+pub(crate) fn ink_row(canvas: Canvas, b: &mut [u8], y: usize, x0: usize, x1: usize, ink: Ink)
     requires { ⌜ (Sized canvas (now b)) × ((x1 ≤ canvas .width) × (y < canvas .height)) ⌝ }
     ensures { λ _. ⌜ now (b .exit) ≡ paint canvas (marks (flat (inked ink)) (run x0 (x1 - x0)) y) (now (b .entry)) ⌝ }
 {

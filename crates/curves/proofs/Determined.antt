@@ -1,5 +1,7 @@
--- No two answers meet the contract of a public function: each is an equation for the answer. Nothing is lent to be written.
+-- No two answers meet the contract of a public function: each is an equation for the answer, or says that it is the first of its
+-- kind. Nothing is lent to be written.
 use mathlib.Core.Path.{_≡_, sym, _∙_}
+use Rattle.curves.proofs.Runs.{one-next}
 use Rattle.curves.proofs.corners.corner.Reads as corner
 use Rattle.curves.proofs.corners.corner_row.Reads as corner-row
 use Rattle.curves.proofs.corners.corners_in.Reads as corners-in
@@ -10,6 +12,7 @@ use Rattle.curves.proofs.ovals.oval_in.Reads as oval-in
 use Rattle.curves.proofs.pies.in_pie.Reads as in-pie
 use Rattle.curves.proofs.pies.pie_in.Reads as pie-in
 use Rattle.curves.proofs.pies.pie_row.Reads as pie-row
+use Rattle.curves.proofs.regions.next.Reads as next
 use Rattle.curves.proofs.strokes.steps.Reads as steps
 use Rattle.curves.proofs.strokes.stroke_point.Reads as stroke-point
 
@@ -42,6 +45,9 @@ pie-in-determined κs a s s' r r' p q = p ∙ sym q
 
 pie-row-determined : (κs : _) (a : _) (s s' : _) (r r' : _) → pie-row.Post κs a r s → pie-row.Post κs a r' s' → r ≡ r'
 pie-row-determined κs a s s' r r' p q = p ∙ sym q
+
+next-determined : (κs : _) (a : _) (s s' : _) (r r' : _) → next.Post κs a r s → next.Post κs a r' s' → r ≡ r'
+next-determined κs a s s' r r' p q = one-next p q
 
 steps-determined : (κs : _) (a : _) (s s' : _) (r r' : _) → steps.Post κs a r s → steps.Post κs a r' s' → r ≡ r'
 steps-determined κs a s s' r r' p q = p .0 ∙ sym (q .0)

@@ -2,4 +2,5 @@
 pub mod corners;
 pub mod ovals;
 pub mod pies;
+pub mod regions;
 pub mod strokes;

@@ -9,11 +9,13 @@ use canvas::Pixel;
 use cases::Answer;
 use cases::Boxed;
 use cases::Call;
+use cases::Curve;
 use cases::Extent;
 use cases::Found;
 use cases::Name;
 use cases::Paint;
 use cases::Point;
+use cases::Rounded;
 use lbmp::Judged;
 
 // What a drawing call answers.
@@ -95,6 +97,39 @@ fn fill(v: Canvas, bytes: &mut [u8], b: Boxed, out: &mut [u8]) -> usize
     let k = b.paint;
     let d = canvas::fill_rect(v, bytes, p.x, p.y, e.w, e.h, k.color, k.clip);
     reply(drawn(Name::Fill, d, bytes), out)
+}
+
+fn pie(v: Canvas, bytes: &mut [u8], c: Curve, out: &mut [u8]) -> usize
+    ensures { λ r. ⌜ r ≤ length (now (out .entry)) ⌝ }
+{
+    let p = c.corner;
+    let e = c.size;
+    let t = c.turn;
+    let k = c.paint;
+    let d = canvas::fill_arc(
+        v,
+        bytes,
+        p.x,
+        p.y,
+        e.w,
+        e.h,
+        t.start,
+        t.sweep,
+        k.color,
+        k.clip,
+    );
+    reply(drawn(Name::Pie, d, bytes), out)
+}
+
+fn fill_round_rect(v: Canvas, bytes: &mut [u8], r: Rounded, out: &mut [u8]) -> usize
+    ensures { λ r. ⌜ r ≤ length (now (out .entry)) ⌝ }
+{
+    let p = r.corner;
+    let e = r.size;
+    let a = r.arc;
+    let k = r.paint;
+    let d = canvas::fill_round_rect(v, bytes, p.x, p.y, e.w, e.h, a.w, a.h, k.color, k.clip);
+    reply(drawn(Name::FillRoundRect, d, bytes), out)
 }
 
 fn invert(v: Canvas, bytes: &mut [u8], p: Point, e: Extent, clip: Clip, out: &mut [u8]) -> usize
@@ -236,6 +271,8 @@ pub(crate) fn run(v: Canvas, bytes: &mut [u8], c: Call, image: &[u8], out: &mut 
         Call::Get(point) => get(v, bytes, point, out),
         Call::Rect(b) => rect(v, bytes, b, out),
         Call::Fill(b) => fill(v, bytes, b, out),
+        Call::Pie(c) => pie(v, bytes, c, out),
+        Call::FillRoundRect(r) => fill_round_rect(v, bytes, r, out),
         Call::Invert { corner, size, clip } => invert(v, bytes, corner, size, clip, out),
         Call::Copy {
             to,
@@ -253,9 +290,7 @@ pub(crate) fn run(v: Canvas, bytes: &mut [u8], c: Call, image: &[u8], out: &mut 
         Call::Line { from, to, paint } => line(v, bytes, from, to, paint, out),
         // Until canvas has these calls.
         Call::Arc(_) => bad(out),
-        Call::Pie(_) => bad(out),
         Call::RoundRect(_) => bad(out),
-        Call::FillRoundRect(_) => bad(out),
         Call::Lbmp(room) => bitmap(image, room, out),
     }
 }

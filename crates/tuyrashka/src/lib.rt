@@ -6,6 +6,7 @@ ghost use Rattle.canvas.specs.Look.{pixelAt};
 ghost use Rattle.tuyrashka.specs.Exported.{canvas, source, clip, color, told, tells};
 
 mod bitmap;
+mod ovals;
 
 use canvas::Canvas;
 use canvas::Clip;

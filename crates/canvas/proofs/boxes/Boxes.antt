@@ -16,7 +16,7 @@ use Rattle.canvas.specs.declared.Tally.{Tally}
 use Rattle.canvas.specs.Plot.{Point, at, Plot, plot, inks, Fate, landed, outside, clipped, fate, Hit, hit, hitOf, keep, hits, paint}
 use Rattle.canvas.specs.Clip.{both, within, inClip}
 use Rattle.canvas.specs.Boxes.{select, side, each, spots, sourceOf, shown, fill}
-use Rattle.canvas.specs.Walk.{lowered, run, Cut, Shown, plus, Work, work, Fits, Ready, Did, mark, marks, field, flat}
+use Rattle.canvas.specs.Walk.{lowered, run, Cut, Shown, plus, Work, work, Fits, Ready, Did, mark, field, flat}
 use Rattle.canvas.proofs.bytes.Places.{area-le}
 use Rattle.canvas.proofs.span.Spans.{both-no, span-holds}
 use Rattle.canvas.proofs.plot.Fates.{on-canvas, is-inside}
@@ -73,8 +73,39 @@ each-nil t g i (suc n) e = go (t i) (e i (omega arith) (omega arith)) (each-nil 
     go true f r = ap₂ (λ (l m : List _). l ++ m) f r
     go false f r = r
 
+-- where each pixel gives plots that land inside the clip
+module _ (v : Canvas) (c : Clip) (g : ℕ → ℕ → List Plot) (h : ℕ → ℕ → List Hit)
+    (lands : (i j : ℕ) → i < v .width → j < v .height
+    → hits v c (g i j) ≡ cond (both (within (c .x) (c .width) (pos i)) (within (c .y) (c .height) (pos j))) (h i j) []) where
+  pixel-row : (t : ℕ → Bool) (j : ℕ) → j < v .height
+      → hits v c (each (λ i. g i j) (select t 0 (v .width)))
+      ≡ cond (within (c .y) (c .height) (pos j)) (each (λ i. h i j) (select (λ i. both (t i) (within (c .x) (c .width) (pos i))) 0 (v .width))) []
+  pixel-row t j hj = hits-each v c (λ i. g i j) (select t 0 (v .width)) ∙ go (within (c .y) (c .height) (pos j)) refl
+    where
+      both-true : (a : Bool) → both a true ≡ a
+      both-true true = refl
+      both-true false = refl
+
+      go : (r : Bool) → within (c .y) (c .height) (pos j) ≡ r
+          → each (λ i. hits v c (g i j)) (select t 0 (v .width))
+          ≡ cond r (each (λ i. h i j) (select (λ i. both (t i) (within (c .x) (c .width) (pos i))) 0 (v .width))) []
+      go true e =
+          each-cond t (λ i. within (c .x) (c .width) (pos i)) _ (λ i. h i j) 0 (v .width)
+          (λ i l m. lands i j (omega arith) hj ∙ rw (e, both-true (within (c .x) (c .width) (pos i))) refl)
+      go false e =
+          each-nil t _ 0 (v .width) (λ i l m. lands i j (omega arith) hj ∙ rw (e, both-no (within (c .x) (c .width) (pos i))) refl)
+
+  pub pixels-hits : (t u : ℕ → Bool)
+      → hits v c (each (λ j. each (λ i. g i j) (select t 0 (v .width))) (select u 0 (v .height)))
+      ≡ each (λ j. each (λ i. h i j) (select (λ i. both (t i) (within (c .x) (c .width) (pos i))) 0 (v .width)))
+      (select (λ j. both (u j) (within (c .y) (c .height) (pos j))) 0 (v .height))
+  pixels-hits t u =
+      hits-each v c (λ j. each (λ i. g i j) (select t 0 (v .width))) (select u 0 (v .height))
+      ∙ each-cond u (λ j. within (c .y) (c .height) (pos j)) _ (λ j. each (λ i. h i j) (select (λ i. both (t i) (within (c .x) (c .width) (pos i))) 0 (v .width))) 0 (v .height)
+      (λ j l m. pixel-row t j (omega arith))
+
 module _ (v : Canvas) (c : Clip) (f : ℕ → ℕ → ℕ → ℕ) where
-  spot-hit : (i j : ℕ) → i < v .width → j < v .height
+  pub spot-hit : (i j : ℕ) → i < v .width → j < v .height
       → hits v c (plot (f i j) (pos i) (pos j) ∷ []) ≡ cond (both (within (c .x) (c .width) (pos i)) (within (c .y) (c .height) (pos j))) (mark f j i) []
   unfolding hits mark inClip
   spot-hit i j hi hj =
@@ -85,32 +116,11 @@ module _ (v : Canvas) (c : Clip) (f : ℕ → ℕ → ℕ → ℕ) where
       go true = refl
       go false = refl
 
-  spot-row : (t : ℕ → Bool) (j : ℕ) → j < v .height
-      → hits v c (each (λ i. plot (f i j) (pos i) (pos j) ∷ []) (select t 0 (v .width)))
-      ≡ cond (within (c .y) (c .height) (pos j)) (marks f (select (λ i. both (t i) (within (c .x) (c .width) (pos i))) 0 (v .width)) j) []
-  spot-row t j hj = hits-each v c (λ i. plot (f i j) (pos i) (pos j) ∷ []) (select t 0 (v .width)) ∙ go (within (c .y) (c .height) (pos j)) refl
-    where
-      both-true : (a : Bool) → both a true ≡ a
-      both-true true = refl
-      both-true false = refl
-
-      go : (r : Bool) → within (c .y) (c .height) (pos j) ≡ r
-          → each (λ i. hits v c (plot (f i j) (pos i) (pos j) ∷ [])) (select t 0 (v .width))
-          ≡ cond r (marks f (select (λ i. both (t i) (within (c .x) (c .width) (pos i))) 0 (v .width)) j) []
-      go true e =
-          each-cond t (λ i. within (c .x) (c .width) (pos i)) _ (mark f j) 0 (v .width)
-          (λ i l m. spot-hit i j (omega arith) hj ∙ rw (e, both-true (within (c .x) (c .width) (pos i))) refl)
-      go false e =
-          each-nil t _ 0 (v .width) (λ i l m. spot-hit i j (omega arith) hj ∙ rw (e, both-no (within (c .x) (c .width) (pos i))) refl)
-
   pub spots-hits : (t u : ℕ → Bool)
       → hits v c (spots f (select t 0 (v .width)) (select u 0 (v .height)))
       ≡ field f (select (λ i. both (t i) (within (c .x) (c .width) (pos i))) 0 (v .width)) (select (λ j. both (u j) (within (c .y) (c .height) (pos j))) 0 (v .height))
   unfolding spots
-  spots-hits t u =
-      hits-each v c (λ j. each (λ i. plot (f i j) (pos i) (pos j) ∷ []) (select t 0 (v .width))) (select u 0 (v .height))
-      ∙ each-cond u (λ j. within (c .y) (c .height) (pos j)) _ (marks f (select (λ i. both (t i) (within (c .x) (c .width) (pos i))) 0 (v .width))) 0 (v .height)
-      (λ j l m. spot-row t j (omega arith))
+  spots-hits t u = pixels-hits v c (λ i j. plot (f i j) (pos i) (pos j) ∷ []) (λ i j. mark f j i) spot-hit t u
 
 -- ---- a fill
 
@@ -124,19 +134,20 @@ fill-spots v f x y w h =
 pub span-le : {lo end : ℕ} {c : ℤ} {m n from to : ℕ} → Cut lo end c m n from to → n ≤ 32767 → to - from ≤ 32767
 span-le k l = omega (arith, k .held)
 
+-- the run of a cut is what the span and the clip share
+pub cut-run : (p w : ℕ) (c : ℤ) (m n x0 x1 : ℕ) → SFits w32 c → Cut (p - 2147483648) (p + w - 2147483648) (toZ w32 (ofZ w32 c)) m n x0 x1
+    → run x0 (x1 - x0) ≡ select (λ i. both (within (lowered p) w (pos i)) (within c m (pos i))) 0 n
+cut-run p w c m n x0 x1 s k = rw (toZ-ofZ w32 c s) at (k .same (λ i. within (lowered p) w (pos i)) (span-holds p w _ _ refl refl))
+
 -- the overlap that the code walks
 module _ (v : Canvas) (c : Clip) (f : ℕ → ℕ) (p q w h : ℕ) (s : SFits w32 (c .x)) (r : SFits w32 (c .y)) (x0 x1 y0 y1 : ℕ)
     (xs : Cut (p - 2147483648) (p + w - 2147483648) (toZ w32 (ofZ w32 (c .x))) (c .width) (v .width) x0 x1)
     (ys : Cut (q - 2147483648) (q + h - 2147483648) (toZ w32 (ofZ w32 (c .y))) (c .height) (v .height) y0 y1) where
   pub fill-hits : hits v c (inks f (fill v (lowered p) (lowered q) w h)) ≡ field (flat f) (run x0 (x1 - x0)) (run y0 (y1 - y0))
   fill-hits =
-      let ex : run x0 (x1 - x0) ≡ select (λ i. both (within (lowered p) w (pos i)) (within (c .x) (c .width) (pos i))) 0 (v .width)
-      = rw (toZ-ofZ w32 (c .x) s) at (xs .same (λ i. within (lowered p) w (pos i)) (span-holds p w _ _ refl refl)) in
-      let ey : run y0 (y1 - y0) ≡ select (λ j. both (within (lowered q) h (pos j)) (within (c .y) (c .height) (pos j))) 0 (v .height)
-      = rw (toZ-ofZ w32 (c .y) r) at (ys .same (λ j. within (lowered q) h (pos j)) (span-holds q h _ _ refl refl)) in
       ap (hits v c) (fill-spots v f (lowered p) (lowered q) w h)
       ∙ spots-hits v c (flat f) (λ i. within (lowered p) w (pos i)) (λ j. within (lowered q) h (pos j))
-      ∙ ap₂ (λ (l m : List ℕ). field (flat f) l m) (sym ex) (sym ey)
+      ∙ ap₂ (λ (l m : List ℕ). field (flat f) l m) (sym (cut-run p w (c .x) (c .width) (v .width) x0 x1 s xs)) (sym (cut-run q h (c .y) (c .height) (v .height) y0 y1 r ys))
 
 -- what is shown of a source
 module _ (v : Canvas) (c : Clip) (p q u t w h m n : ℕ) (s : SFits w32 (c .x)) (r : SFits w32 (c .y)) (x0 x1 y0 y1 : ℕ)
@@ -180,13 +191,18 @@ unfolding each
 each-le g k [] h = omega (arith, zero-mul k)
 each-le g k (x ∷ xs) h = omega (arith, length-append (g x) (each g xs), h x, each-le g k xs h, suc-mul (length xs) k)
 
-pub fill-le : (v : Canvas) (x y : ℤ) (w h : ℕ) → v .width ≤ 32767 → v .height ≤ 32767 → length (fill v x y w h) ≤ 1073676289
-unfolding fill
-fill-le v x y w h hw hh =
-    let one : (j : ℕ) → length (each (λ i. at (pos i) (pos j) ∷ []) (side x w (v .width))) ≤ v .width
-    = λ j. omega (arith, each-le (λ i. at (pos i) (pos j) ∷ []) 1 (side x w (v .width)) (λ i. omega arith), select-le (λ i. within x w (pos i)) 0 (v .width)) in
+-- where no pixel of a box gives more than one point
+pub pixels-le : (v : Canvas) (g : ℕ → ℕ → List Point) (x y : ℤ) (w h : ℕ) → ((i j : ℕ) → length (g i j) ≤ 1) → v .width ≤ 32767 → v .height ≤ 32767
+    → length (each (λ j. each (λ i. g i j) (side x w (v .width))) (side y h (v .height))) ≤ 1073676289
+pixels-le v g x y w h few hw hh =
+    let one : (j : ℕ) → length (each (λ i. g i j) (side x w (v .width))) ≤ v .width
+    = λ j. omega (arith, each-le (λ i. g i j) 1 (side x w (v .width)) (λ i. few i j), select-le (λ i. within x w (pos i)) 0 (v .width)) in
     le-trans (each-le _ (v .width) (side y h (v .height)) one)
     (le-trans (mul-le-mul-right (v .width) (select-le _ 0 (v .height))) (area-le (v .width) (v .height) hw hh))
+
+pub fill-le : (v : Canvas) (x y : ℤ) (w h : ℕ) → v .width ≤ 32767 → v .height ≤ 32767 → length (fill v x y w h) ≤ 1073676289
+unfolding fill
+fill-le v x y w h hw hh = pixels-le v (λ i j. at (pos i) (pos j) ∷ []) x y w h (λ i j. omega arith) hw hh
 
 pub inks-few : (f : ℕ → ℕ) (ps : List Point) → length ps ≤ 1073676289 → length (inks f ps) < 18446744073709551616
 inks-few f ps h = omega (arith, inks-length f ps)

@@ -24,7 +24,7 @@ unfolding orElse
 or-sound f d e = rw e refl
 
 -- a test that passes leaves no fault
-passes : (t : Bool) (r : Refusal) (d : Verdict) → cond t (Faulty r) d ≡ Sound → (t ≡ false) × (d ≡ Sound)
+pub passes : (t : Bool) (r : Refusal) (d : Verdict) → cond t (Faulty r) d ≡ Sound → (t ≡ false) × (d ≡ Sound)
 passes true r d e = absurd (let z : _≡_ {A = ℕ} 0 1 = cc in omega arith)
 passes false r d e = (refl, e)
 
@@ -40,7 +40,7 @@ size-known v e =
     let h : (ltb 32767 (v .height) ≡ false) × (Sound ≡ Sound) = passes (ltb 32767 (v .height)) Size Sound (w .1) in
     (ltb-false _ _ (w .0), ltb-false _ _ (h .0))
 
-both-sound : (f d : Verdict) → orElse f d ≡ Sound → (f ≡ Sound) × (d ≡ Sound)
+pub both-sound : (f d : Verdict) → orElse f d ≡ Sound → (f ≡ Sound) × (d ≡ Sound)
 unfolding orElse
 both-sound Sound d e = (refl, e)
 both-sound (Faulty r) d e = absurd (let z : _≡_ {A = ℕ} 0 1 = cc in omega arith)

@@ -25,7 +25,7 @@ unfolding each
 each-append g [] ys = refl
 each-append g (x ∷ xs) ys = ap (λ (l : List _). g x ++ l) (each-append g xs ys) ∙ sym (append-assoc (g x) (each g xs) (each g ys))
 
-parts : {A : Type 0} (g : ℕ → List A) (i m n : ℕ) → each g (run i (m + n)) ≡ each g (run i m) ++ each g (run (i + m) n)
+pub parts : {A : Type 0} (g : ℕ → List A) (i m n : ℕ) → each g (run i (m + n)) ≡ each g (run i m) ++ each g (run (i + m) n)
 parts g i m n = ap (each g) (run-append i m n) ∙ each-append g (run i m) (run (i + m) n)
 
 pub join-after : (v : Canvas) (g : ℕ → List Hit) (b : List ℕ) (i m n : ℕ) → paint v (each g (run (i + m) n)) (paint v (each g (run i m)) b) ≡ paint v (each g (run i (m + n))) b
@@ -56,7 +56,7 @@ join-before v f k g b s i m n p q =
 
 -- ---- inks that are alike on the part
 
-run-alike : {A : Type 0} (g h : ℕ → List A) (i n : ℕ) → ((k : ℕ) → i ≤ k → k < i + n → g k ≡ h k) → each g (run i n) ≡ each h (run i n)
+pub run-alike : {A : Type 0} (g h : ℕ → List A) (i n : ℕ) → ((k : ℕ) → i ≤ k → k < i + n → g k ≡ h k) → each g (run i n) ≡ each h (run i n)
 unfolding each run
 run-alike g h i zero e = refl
 run-alike g h i (suc n) e = ap₂ (λ (l m : List _). l ++ m) (e i (omega arith) (omega arith)) (run-alike g h (suc i) n (λ k l m. e k (omega arith) (omega arith)))

@@ -85,8 +85,9 @@ unfolding each
 each-length g k [] h = sym (zero-mul k)
 each-length g k (x ∷ xs) h = omega (arith, length-append (g x) (each g xs), h x, each-length g k xs h, suc-mul (length xs) k)
 
-pub field-length : (f : ℕ → ℕ → ℕ → ℕ) (x m y n : ℕ) → length (field f (run x m) (run y n)) ≡ n * m
+pub marks-length : (f : ℕ → ℕ → ℕ → ℕ) (x m y : ℕ) → length (marks f (run x m) y) ≡ m
 unfolding mark
-field-length f x m y n =
-    let one : (j : ℕ) → length (marks f (run x m) j) ≡ m = λ j. omega (arith, each-length (mark f j) 1 (run x m) (λ i. refl), run-length x m) in
-    each-length (marks f (run x m)) m (run y n) one ∙ ap (λ (k : ℕ). k * m) (run-length y n)
+marks-length f x m y = omega (arith, each-length (mark f y) 1 (run x m) (λ i. refl), run-length x m)
+
+pub field-length : (f : ℕ → ℕ → ℕ → ℕ) (x m y n : ℕ) → length (field f (run x m) (run y n)) ≡ n * m
+field-length f x m y n = each-length (marks f (run x m)) m (run y n) (marks-length f x m) ∙ ap (λ (k : ℕ). k * m) (run-length y n)

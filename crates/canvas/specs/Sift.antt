@@ -1,0 +1,36 @@
+-- What the contracts of the inner functions of pies and round fills speak of; no public contract cites this file.
+use mathlib.Core.Path.{_≡_}
+use mathlib.Core.Bool.{Bool, true, cond}
+use mathlib.Core.List.{List, []}
+use Prim.Native.Nat.{ℕ, _≤_, _<_}
+use lib.IntN.{ℤ, pos}
+use lib.ListN.{length}
+use Rattle.curves.specs.declared.regions.Region.{Region}
+use Rattle.curves.specs.Regions.{Asked}
+use Rattle.canvas.specs.declared.Canvas.{Canvas}
+use Rattle.canvas.specs.Clip.{within}
+use Rattle.canvas.specs.Plot.{Hit, paint}
+use Rattle.canvas.specs.Boxes.{each}
+use Rattle.canvas.specs.Walk.{plus, Work, work, mark, flat}
+
+-- A hit on a pixel that passes a test, and those of a part of a row and of a box.
+unfoldable pub sift : (ℕ → ℕ → Bool) → (ℕ → ℕ) → ℕ → ℕ → List Hit
+sift t f y x = cond (t x y) (mark (flat f) y x) []
+
+abbrev pub sifts : (ℕ → ℕ → Bool) → (ℕ → ℕ) → List ℕ → ℕ → List Hit
+sifts t f xs y = each (sift t f y) xs
+
+abbrev pub sifted : (ℕ → ℕ → Bool) → (ℕ → ℕ) → List ℕ → List ℕ → List Hit
+sifted t f xs ys = each (sifts t f xs) ys
+
+-- What hits make of the bytes and of the tally.
+abbrev pub land : Canvas → List Hit → Work → Work
+land v hs w = work (paint v hs (w .bytes)) (plus (w .tally) (length hs))
+
+-- The region's test may be made at each of these pixels, with this table.
+pub record AskedAt (s : Region) (t : List ℕ) (x0 x1 y0 y1 : ℕ) : Type 0 where
+  pub rows : (j : ℕ) → y0 ≤ j → j < y1 → Asked s t j x0 x1
+
+-- At each pixel of a box that a canvas may have.
+pub record AskedIn (s : Region) (t : List ℕ) (x y : ℤ) (w h : ℕ) : Type 0 where
+  pub rows : (j x0 x1 : ℕ) → j ≤ 32767 → x1 ≤ 32767 → within y h (pos j) ≡ true → ((i : ℕ) → x0 ≤ i → i < x1 → within x w (pos i) ≡ true) → Asked s t j x0 x1
