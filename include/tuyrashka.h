@@ -43,6 +43,15 @@ uint32_t tuyrashka_fill_rect(uint32_t format, uint32_t width, uint32_t height, b
                              int32_t clip_x, int32_t clip_y, uint32_t clip_w, uint32_t clip_h,
                              uint64_t *count);
 
+/* Plots the arc of the box's oval from start_angle on, arc_angle degrees of it, counter-clockwise where that is not
+ * negative, as a row of points, some of them more than once; *count is how many are on the canvas and inside the clip. */
+uint32_t tuyrashka_draw_arc(uint32_t format, uint32_t width, uint32_t height, bool xor_mode,
+                            uint8_t *data, size_t data_len,
+                            int32_t x, int32_t y, uint32_t w, uint32_t h,
+                            int32_t start_angle, int32_t arc_angle, uint32_t argb,
+                            int32_t clip_x, int32_t clip_y, uint32_t clip_w, uint32_t clip_h,
+                            uint64_t *count);
+
 /* Fills the pie of the box's oval from start_angle on, arc_angle degrees of it, counter-clockwise where that is not
  * negative; *count is the number of its pixels that are on the canvas and inside the clip. */
 uint32_t tuyrashka_fill_arc(uint32_t format, uint32_t width, uint32_t height, bool xor_mode,
@@ -51,6 +60,15 @@ uint32_t tuyrashka_fill_arc(uint32_t format, uint32_t width, uint32_t height, bo
                             int32_t start_angle, int32_t arc_angle, uint32_t argb,
                             int32_t clip_x, int32_t clip_y, uint32_t clip_w, uint32_t clip_h,
                             uint64_t *count);
+
+/* Plots the outline of the box with round corners: the edges between them and four quarters of an oval, some points more
+ * than once; where an arc size is 0, the plain outline. *count is how many are on the canvas and inside the clip. */
+uint32_t tuyrashka_draw_round_rect(uint32_t format, uint32_t width, uint32_t height, bool xor_mode,
+                                   uint8_t *data, size_t data_len,
+                                   int32_t x, int32_t y, uint32_t w, uint32_t h,
+                                   uint32_t arc_width, uint32_t arc_height, uint32_t argb,
+                                   int32_t clip_x, int32_t clip_y, uint32_t clip_w, uint32_t clip_h,
+                                   uint64_t *count);
 
 /* Fills the box with round corners, arc_width and arc_height being the sides of their oval; where one is 0, the plain
  * box. *count is the number of pixels filled that are on the canvas and inside the clip. */

@@ -16,6 +16,8 @@ use Rattle.canvas.specs.Look.{Reading, seenOf, reads}
 use Rattle.canvas.specs.Look as look
 use Rattle.canvas.proofs.lines.draw_line.Reads as draw-line
 use Rattle.canvas.proofs.plot.put_pixel.Reads as put-pixel
+use Rattle.canvas.proofs.rounds.draw_round_rect.Reads as draw-round-rect
+use Rattle.canvas.proofs.strokes.draw_arc.Reads as draw-arc
 use Rattle.canvas.proofs.boxes.draw_rect.Reads as draw-rect
 use Rattle.canvas.proofs.boxes.fill_rect.Reads as fill-rect
 use Rattle.canvas.proofs.ovals.fill_arc.Reads as fill-arc
@@ -93,6 +95,12 @@ reads-same p q h = same-pixel p q (ap (λ (r : Reading). r .status) h) (ap (λ (
 
 pub draw-line-determined : (κs : _) (a : _) (s s' : _) (r r' : _) → draw-line.Post κs a r s → draw-line.Post κs a r' s' → (r ≡ r') × (now (s .1 .0) ≡ now (s' .1 .0))
 draw-line-determined κs a s s' r r' p q = leaves-same r r' (now (s .1 .0)) (now (s' .1 .0)) (p ∙ sym q)
+
+pub draw-arc-determined : (κs : _) (a : _) (s s' : _) (r r' : _) → draw-arc.Post κs a r s → draw-arc.Post κs a r' s' → (r ≡ r') × (now (s .1 .0) ≡ now (s' .1 .0))
+draw-arc-determined κs a s s' r r' p q = leaves-same r r' (now (s .1 .0)) (now (s' .1 .0)) (p ∙ sym q)
+
+pub draw-round-rect-determined : (κs : _) (a : _) (s s' : _) (r r' : _) → draw-round-rect.Post κs a r s → draw-round-rect.Post κs a r' s' → (r ≡ r') × (now (s .1 .0) ≡ now (s' .1 .0))
+draw-round-rect-determined κs a s s' r r' p q = leaves-same r r' (now (s .1 .0)) (now (s' .1 .0)) (p ∙ sym q)
 
 pub put-pixel-determined : (κs : _) (a : _) (s s' : _) (r r' : _) → put-pixel.Post κs a r s → put-pixel.Post κs a r' s' → (r ≡ r') × (now (s .1 .0) ≡ now (s' .1 .0))
 put-pixel-determined κs a s s' r r' p q = leaves-same r r' (now (s .1 .0)) (now (s' .1 .0)) (p ∙ sym q)

@@ -30,6 +30,8 @@ pub use ovals::fill_arc;
 pub use ovals::fill_round_rect;
 pub use pictures::draw;
 pub use plot::put_pixel;
+pub use rounds::draw_round_rect;
+pub use strokes::draw_arc;
 use words::Color;
 
 // A canvas is a format number, width, height and XOR switch; its bytes are lent beside it.

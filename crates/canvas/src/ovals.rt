@@ -176,7 +176,7 @@ pub fn fill_arc(
 }
 
 // The corners of a box with these arc sizes.
-fn corners_of(x: i32, y: i32, w: u32, h: u32, aw: u32, ah: u32) -> Corners
+pub(crate) fn corners_of(x: i32, y: i32, w: u32, h: u32, aw: u32, ah: u32) -> Corners
     requires { ⌜ (Shaped x y w h) × ((1 ≤ w) × (1 ≤ h)) ⌝ }
     ensures { λ r. ⌜ r ≡ cornersOf x y (x +ℤ pos (w - 1)) (y +ℤ pos (h - 1)) (radiusOf aw w) (radiusOf ah h) ⌝ }
 {

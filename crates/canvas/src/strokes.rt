@@ -5,11 +5,14 @@ ghost use Rattle.words.specs.Ink.{inked};
 ghost use Rattle.canvas.specs.Bytes.{size};
 ghost use Rattle.canvas.specs.Faults.{Sized};
 ghost use Rattle.canvas.specs.Plot.{inks};
-ghost use Rattle.canvas.specs.Strokes.{pointOf, strokeFrom, stroke, quarters};
+ghost use Rattle.canvas.specs.Strokes.{pointOf, strokeFrom, stroke, arc, quarters};
+ghost use Rattle.canvas.specs.Call.{drawArc, leaves, call};
 ghost use Rattle.canvas.specs.Walk.{plus, work, dabbed, dabs, Fits, Did, Fields};
 use crate::Canvas;
 use crate::Clip;
+use crate::Drawn;
 use crate::Tally;
+use crate::faults::Verdict;
 use crate::plot::dab;
 use crate::span::Span;
 use crate::span::lift;
@@ -18,6 +21,7 @@ use curves::corners::Corners;
 use curves::corners::corner;
 use curves::ovals::Oval;
 use curves::strokes::Spot;
+use words::Color;
 use words::Ink;
 
 // The plot of one point.
@@ -89,6 +93,75 @@ pub(crate) fn stroke_in(
         1 => stroke_steps(canvas, b, xs, ys, 2, o, start, sweep, steps, ink, t),
         _ => stroke_steps(canvas, b, xs, ys, 4, o, start, sweep, steps, ink, t),
     }
+}
+
+// The plots of an arc, whose angles are in degrees.
+fn arc_in(
+    canvas: Canvas,
+    b: &mut [u8],
+    x: i32,
+    y: i32,
+    w: u32,
+    h: u32,
+    start: i32,
+    sweep: i32,
+    ink: Ink,
+    clip: Clip,
+    t: Tally,
+) -> Tally
+    requires { ⌜ (Sized canvas (now b)) × (t .landed < 9223372036854775808) ⌝ }
+    ensures { λ r. ⌜ Did canvas clip (inks (inked ink) (arc canvas x y w h start sweep)) (work (now (b .entry)) t) (work (now (b .exit)) r) ⌝ }
+{
+    if w == 0 {
+        return t;
+    }
+    if h == 0 {
+        return t;
+    }
+    let o = curves::ovals::oval_in(x, y, w, h);
+    let from = number::radians(std::num::nearest_i32_to_f32(start));
+    let turn = number::radians(std::num::nearest_i32_to_f32(sweep));
+    stroke_in(canvas, b, o, from, turn, ink, clip, t)
+}
+
+// An arc.
+pub fn draw_arc(
+    canvas: Canvas,
+    bytes: &mut [u8],
+    x: i32,
+    y: i32,
+    w: u32,
+    h: u32,
+    start: i32,
+    arc: i32,
+    color: Color,
+    clip: Clip,
+) -> Drawn
+    ensures { λ r. ⌜ leaves r (now (bytes .exit)) ≡ call canvas (drawArc x y w h start arc color clip) (now (bytes .entry)) ⌝ }
+{
+    let s = crate::faults::judge(canvas, bytes.len());
+    if let Verdict::Faulty(r) = s {
+        return Drawn::Refused(r);
+    }
+    let o = crate::faults::arc_fault(x, y, w, h, start, arc);
+    if let Verdict::Faulty(r) = o {
+        return Drawn::Refused(r);
+    }
+    let ink = words::plot_ink(canvas.format, canvas.xor, color);
+    let t = arc_in(
+        canvas,
+        bytes,
+        x,
+        y,
+        w,
+        h,
+        start,
+        arc,
+        ink,
+        clip,
+        Tally { landed: 0 },
+    );
+    Drawn::Done(t)
 }
 
 // The plots of the quarters at the corners of a round rectangle.

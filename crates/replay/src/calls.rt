@@ -99,6 +99,28 @@ fn fill(v: Canvas, bytes: &mut [u8], b: Boxed, out: &mut [u8]) -> usize
     reply(drawn(Name::Fill, d, bytes), out)
 }
 
+fn arc(v: Canvas, bytes: &mut [u8], c: Curve, out: &mut [u8]) -> usize
+    ensures { λ r. ⌜ r ≤ length (now (out .entry)) ⌝ }
+{
+    let p = c.corner;
+    let e = c.size;
+    let t = c.turn;
+    let k = c.paint;
+    let d = canvas::draw_arc(
+        v,
+        bytes,
+        p.x,
+        p.y,
+        e.w,
+        e.h,
+        t.start,
+        t.sweep,
+        k.color,
+        k.clip,
+    );
+    reply(drawn(Name::Arc, d, bytes), out)
+}
+
 fn pie(v: Canvas, bytes: &mut [u8], c: Curve, out: &mut [u8]) -> usize
     ensures { λ r. ⌜ r ≤ length (now (out .entry)) ⌝ }
 {
@@ -119,6 +141,17 @@ fn pie(v: Canvas, bytes: &mut [u8], c: Curve, out: &mut [u8]) -> usize
         k.clip,
     );
     reply(drawn(Name::Pie, d, bytes), out)
+}
+
+fn round_rect(v: Canvas, bytes: &mut [u8], r: Rounded, out: &mut [u8]) -> usize
+    ensures { λ r. ⌜ r ≤ length (now (out .entry)) ⌝ }
+{
+    let p = r.corner;
+    let e = r.size;
+    let a = r.arc;
+    let k = r.paint;
+    let d = canvas::draw_round_rect(v, bytes, p.x, p.y, e.w, e.h, a.w, a.h, k.color, k.clip);
+    reply(drawn(Name::RoundRect, d, bytes), out)
 }
 
 fn fill_round_rect(v: Canvas, bytes: &mut [u8], r: Rounded, out: &mut [u8]) -> usize
@@ -288,9 +321,8 @@ pub(crate) fn run(v: Canvas, bytes: &mut [u8], c: Call, image: &[u8], out: &mut 
             clip,
         } => draw(v, bytes, corner, size, source, image, from, clip, out),
         Call::Line { from, to, paint } => line(v, bytes, from, to, paint, out),
-        // Until canvas has these calls.
-        Call::Arc(_) => bad(out),
-        Call::RoundRect(_) => bad(out),
+        Call::Arc(c) => arc(v, bytes, c, out),
+        Call::RoundRect(r) => round_rect(v, bytes, r, out),
         Call::Lbmp(room) => bitmap(image, room, out),
     }
 }

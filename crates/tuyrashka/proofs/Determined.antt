@@ -9,7 +9,9 @@ use Rattle.tuyrashka.proofs.tuyrashka_put_pixel.Reads as put-pixel
 use Rattle.tuyrashka.proofs.tuyrashka_draw_line.Reads as draw-line
 use Rattle.tuyrashka.proofs.tuyrashka_draw_rect.Reads as draw-rect
 use Rattle.tuyrashka.proofs.tuyrashka_fill_rect.Reads as fill-rect
+use Rattle.tuyrashka.proofs.ovals.tuyrashka_draw_arc.Reads as draw-arc
 use Rattle.tuyrashka.proofs.ovals.tuyrashka_fill_arc.Reads as fill-arc
+use Rattle.tuyrashka.proofs.ovals.tuyrashka_draw_round_rect.Reads as draw-round-rect
 use Rattle.tuyrashka.proofs.ovals.tuyrashka_fill_round_rect.Reads as fill-round-rect
 use Rattle.tuyrashka.proofs.tuyrashka_invert_rect.Reads as invert-rect
 use Rattle.tuyrashka.proofs.tuyrashka_copy_area.Reads as copy-area
@@ -38,9 +40,17 @@ pub fill-rect-determined : (κs : _) (a : _) (s s' : _) (r r' : _) → fill-rect
     → (r ≡ r') × ((now (s .1 .1 .1 .1 .1 .1 .1 .1 .1 .1 .1 .1 .1 .1 .0) ≡ now (s' .1 .1 .1 .1 .1 .1 .1 .1 .1 .1 .1 .1 .1 .1 .0)) × (now (s .1 .1 .1 .1 .0) ≡ now (s' .1 .1 .1 .1 .0)))
 fill-rect-determined κs a s s' r r' p q = same-outcome (p ∙ sym q)
 
+pub draw-arc-determined : (κs : _) (a : _) (s s' : _) (r r' : _) → draw-arc.Post κs a r s → draw-arc.Post κs a r' s'
+    → (r ≡ r') × ((now (s .1 .1 .1 .1 .1 .1 .1 .1 .1 .1 .1 .1 .1 .1 .1 .1 .0) ≡ now (s' .1 .1 .1 .1 .1 .1 .1 .1 .1 .1 .1 .1 .1 .1 .1 .1 .0)) × (now (s .1 .1 .1 .1 .0) ≡ now (s' .1 .1 .1 .1 .0)))
+draw-arc-determined κs a s s' r r' p q = same-outcome (p ∙ sym q)
+
 pub fill-arc-determined : (κs : _) (a : _) (s s' : _) (r r' : _) → fill-arc.Post κs a r s → fill-arc.Post κs a r' s'
     → (r ≡ r') × ((now (s .1 .1 .1 .1 .1 .1 .1 .1 .1 .1 .1 .1 .1 .1 .1 .1 .0) ≡ now (s' .1 .1 .1 .1 .1 .1 .1 .1 .1 .1 .1 .1 .1 .1 .1 .1 .0)) × (now (s .1 .1 .1 .1 .0) ≡ now (s' .1 .1 .1 .1 .0)))
 fill-arc-determined κs a s s' r r' p q = same-outcome (p ∙ sym q)
+
+pub draw-round-rect-determined : (κs : _) (a : _) (s s' : _) (r r' : _) → draw-round-rect.Post κs a r s → draw-round-rect.Post κs a r' s'
+    → (r ≡ r') × ((now (s .1 .1 .1 .1 .1 .1 .1 .1 .1 .1 .1 .1 .1 .1 .1 .1 .0) ≡ now (s' .1 .1 .1 .1 .1 .1 .1 .1 .1 .1 .1 .1 .1 .1 .1 .1 .0)) × (now (s .1 .1 .1 .1 .0) ≡ now (s' .1 .1 .1 .1 .0)))
+draw-round-rect-determined κs a s s' r r' p q = same-outcome (p ∙ sym q)
 
 pub fill-round-rect-determined : (κs : _) (a : _) (s s' : _) (r r' : _) → fill-round-rect.Post κs a r s → fill-round-rect.Post κs a r' s'
     → (r ≡ r') × ((now (s .1 .1 .1 .1 .1 .1 .1 .1 .1 .1 .1 .1 .1 .1 .1 .1 .0) ≡ now (s' .1 .1 .1 .1 .1 .1 .1 .1 .1 .1 .1 .1 .1 .1 .1 .1 .0)) × (now (s .1 .1 .1 .1 .0) ≡ now (s' .1 .1 .1 .1 .0)))

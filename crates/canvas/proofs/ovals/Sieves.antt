@@ -109,7 +109,7 @@ inside x w i l m n e = let k = both-are (leZ x (pos i)) (ltZ (pos i) (x +ℤ pos
     both-are true b e = (refl, e)
     both-are false b e = absurd (let z : _≡_ {A = ℕ} 0 1 = cc in omega arith)
 
-no-side : (w h : ℕ) → 0 < w → 0 < h → (eqb w 0 || eqb h 0) ≡ false
+pub no-side : (w h : ℕ) → 0 < w → 0 < h → (eqb w 0 || eqb h 0) ≡ false
 no-side w h l m = rw (ne-eqb w 0 (λ e. omega arith), ne-eqb h 0 (λ e. omega arith)) refl
 
 module _ (v : Canvas) (x y : ℤ) (w h : ℕ) (start arc : ℤ) where

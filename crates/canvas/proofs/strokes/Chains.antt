@@ -5,9 +5,9 @@ use mathlib.Core.List.{List, _++_}
 use Prim.Native.Nat.{ℕ, suc, _+_, _*_, _-_, _≤_, _<_, max, min}
 use native.Mathlib.Omega.{arith}
 use native.Mathlib.Nat.{min-le-right}
-use lib.IntN.{pos}
+use lib.IntN.{ℤ, pos, _+ℤ_}
 use lib.Ieee.{Float, fin, binary32, ofInt}
-use lib.ListN.{length}
+use lib.ListN.{length, length-append}
 use Rattle.curves.specs.declared.ovals.Oval.{Oval}
 use Rattle.number.specs.Degrees.{radiansOf}
 use Rattle.angle.specs.Stroke.{radians}
@@ -104,3 +104,21 @@ module _ {v : Canvas} {c : Clip} (f : ℕ → ℕ) (p q w h rx ry : ℕ) where
       let f4 = fill v (lowered (p + (w - 1))) (lowered (q + ry)) 1 (h - 2 * ry) in
       rw (lowered-add p rx, lowered-add q (h - 1), lowered-add q ry, lowered-add p (w - 1))
       (then f f1 (f2 ++ (f3 ++ f4)) (rw el at d1) (then f f2 (f3 ++ f4) (rw el at d2) (then f f3 f4 (rw em at d3) (rw em at d4))))
+
+pub edges-le : (v : Canvas) (x y : ℤ) (w h rx ry : ℕ) → v .width ≤ 32767 → v .height ≤ 32767 → length (edges v x y w h rx ry) ≤ 4294705156
+unfolding edges
+edges-le v x y w h rx ry hw hh =
+    let f1 = fill v (x +ℤ pos rx) y (w - 2 * rx) 1 in
+    let f2 = fill v (x +ℤ pos rx) (y +ℤ pos (h - 1)) (w - 2 * rx) 1 in
+    let f3 = fill v x (y +ℤ pos ry) 1 (h - 2 * ry) in
+    let f4 = fill v (x +ℤ pos (w - 1)) (y +ℤ pos ry) 1 (h - 2 * ry) in
+    omega (
+      arith,
+      length-append f1 (f2 ++ (f3 ++ f4)),
+      length-append f2 (f3 ++ f4),
+      length-append f3 f4,
+      fill-le v (x +ℤ pos rx) y (w - 2 * rx) 1 hw hh,
+      fill-le v (x +ℤ pos rx) (y +ℤ pos (h - 1)) (w - 2 * rx) 1 hw hh,
+      fill-le v x (y +ℤ pos ry) 1 (h - 2 * ry) hw hh,
+      fill-le v (x +ℤ pos (w - 1)) (y +ℤ pos ry) 1 (h - 2 * ry) hw hh,
+    )
