@@ -31,10 +31,10 @@ up-to-26 nan h = absurd h
 up-to-26 (inf s) h = absurd h
 up-to-26 (fin s m e) h = record { number = tt; size = subst (λ (x : ℕ). x ≤ 26 * D) (sym (size-is s m e)) (kept (m * up e) (down e) (down-pos e) h) }
 
-pub stroke-up-to-26 : (start sweep : ℤ) (i steps : ℕ) → natAbs start ≤ 720 → natAbs sweep ≤ 720 → i ≤ steps → 0 < steps → steps ≤ 16 * 65534 → UpTo26 (strokeAngle start sweep i steps)
+pub stroke-up-to-26 : (start sweep : ℤ) (i steps : ℕ) → natAbs start ≤ 720 → natAbs sweep ≤ 720 → i ≤ steps → 0 < steps → steps ≤ 16 * 65534 → UpTo26 (strokeAngle (radians start) (radians sweep) i steps)
 unfolding strokeAngle radiansOf ofInt
 stroke-up-to-26 start sweep i steps a b h p k =
-    up-to-26 (strokeAngle start sweep i steps)
+    up-to-26 (strokeAngle (radians start) (radians sweep) i steps)
     (add-most (radians start) (div binary32 (mul binary32 (radians sweep) (ofInt binary32 (pos i))) (ofInt binary32 (pos steps))) 13 13
     (rad-most (ofInt binary32 start) (int-most start 720 a (lit≤ tt)))
     (div-most (mul binary32 (radians sweep) (ofInt binary32 (pos i))) (ofInt binary32 (pos steps)) 13 i steps

@@ -9,5 +9,5 @@ abbrev pub radians : ℤ → Float
 radians z = radiansOf (ofInt binary32 z)
 
 -- "t = start + (sweep*i)/steps in f32 radians"
-unfoldable pub strokeAngle : ℤ → ℤ → ℕ → ℕ → Float
-strokeAngle start sweep i steps = add binary32 (radians start) (div binary32 (mul binary32 (radians sweep) (ofInt binary32 (pos i))) (ofInt binary32 (pos steps)))
+unfoldable pub strokeAngle : Float → Float → ℕ → ℕ → Float
+strokeAngle start sweep i steps = add binary32 start (div binary32 (mul binary32 sweep (ofInt binary32 (pos i))) (ofInt binary32 (pos steps)))

@@ -1,0 +1,57 @@
+-- Round corners: radii, the four corners' ovals, and which points of its box a fill takes. Definitions only.
+use Prim.Native.Nat.{ℕ, _-_, min}
+use mathlib.Core.Bool.{Bool, false, cond}
+use lib.IntN.{ℤ, pos, negsuc, _+ℤ_}
+use lib.Ieee.{Float, fin, binary32, ofInt, add, sub, mul, div, lt, le}
+use Rattle.number.specs.Size.{maxOf}
+use Rattle.number.specs.Whole.{roundAs}
+use Rattle.curves.specs.declared.ovals.Oval.{Oval}
+use Rattle.curves.specs.declared.corners.Corners.{Corners}
+use Rattle.curves.specs.Ovals.{half, one}
+
+-- "radii rx, ry are half the smaller of arc size and box, at least 0.5"
+unfoldable pub radiusOf : ℕ → ℕ → Float
+radiusOf arc side = maxOf (div binary32 (ofInt binary32 (pos (min arc side))) (fin false 1 (pos 1))) half
+
+abbrev pub sizeOf : ℤ → ℕ
+sizeOf (pos n) = n
+sizeOf (negsuc n) = 0
+
+-- "round(rx)", which is not negative.
+unfoldable pub insetOf : Float → ℕ
+insetOf r = sizeOf (roundAs 31 r)
+
+-- "centred rx, ry in from their corners": the first and last columns and rows are given.
+unfoldable pub cornersOf : ℤ → ℤ → ℤ → ℤ → Float → Float → Corners
+cornersOf left top right bottom rx ry = record {
+  left = add binary32 (ofInt binary32 left) rx;
+  right = sub binary32 (ofInt binary32 right) rx;
+  top = add binary32 (ofInt binary32 top) ry;
+  bottom = sub binary32 (ofInt binary32 bottom) ry;
+  rx = rx;
+  ry = ry;
+}
+
+unfoldable pub cornerOf : Corners → Bool → Bool → Oval
+cornerOf c right bottom = record { cx = cond right (c .right) (c .left); cy = cond bottom (c .bottom) (c .top); a = c .rx; b = c .ry }
+
+-- "the nearest corner centre, held to the box of the four centres (left and top tested first)"
+unfoldable pub nearestCentre : Float → Float → Float → Float
+nearestCentre p low high = cond (lt p low) low (cond (lt high p) high p)
+
+-- The offset from it, over the radius, squared.
+unfoldable pub partOf : Float → Float → Float → Float → Float
+partOf p low high r = let n = div binary32 (sub binary32 p (nearestCentre p low high)) r in mul binary32 n n
+
+unfoldable pub cornerRowOf : Corners → ℕ → Float
+cornerRowOf c j = partOf (ofInt binary32 (pos j)) (c .top) (c .bottom) (c .ry)
+
+unfoldable pub inCornersAt : Corners → Float → ℕ → Bool
+inCornersAt c row i = le (add binary32 (partOf (ofInt binary32 (pos i)) (c .left) (c .right) (c .rx)) row) one
+
+-- "The fill takes points whose offset from the nearest corner centre .. meets the pie's ellipse test with rx, ry", for the
+-- point (i, j) of a box with arc sizes aw and ah.
+unfoldable pub inRound : ℤ → ℤ → ℕ → ℕ → ℕ → ℕ → ℕ → ℕ → Bool
+inRound x y w h aw ah i j =
+    let c = cornersOf x y (x +ℤ pos (w - 1)) (y +ℤ pos (h - 1)) (radiusOf aw w) (radiusOf ah h) in
+    inCornersAt c (cornerRowOf c j) i

@@ -1,0 +1,4 @@
+pub mod Ovals
+pub mod Strokes
+pub mod Pies
+pub mod Corners

@@ -1,0 +1,5 @@
+// The float arithmetic of arcs, pies and round corners. It knows nothing of bytes or canvases.
+pub mod corners;
+pub mod ovals;
+pub mod pies;
+pub mod strokes;

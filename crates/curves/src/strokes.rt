@@ -1,0 +1,49 @@
+// Strokes: how many steps one has, and the point at each.
+ghost use mathlib.Core.Path.{_≡_};
+ghost use Prim.Native.Nat.{_+_, _*_, _≤_, max};
+ghost use Rattle.curves.specs.Strokes.{stepsOf, strokePoint};
+use crate::ovals::Oval;
+
+// The most steps on a canvas of these sides.
+fn most_steps(width: u32, height: u32) -> u64
+    ensures { λ r. ⌜ r ≡ 16 * max (width + height) 1 ⌝ }
+{
+    let sides = width as u64 + height as u64;
+    if sides > 1 {
+        return 16 * sides;
+    }
+    16
+}
+
+// The steps of a stroke, whose sweep is in radians, on a canvas of these sides.
+pub fn steps(o: Oval, sweep: f32, width: u32, height: u32) -> u64
+    ensures { λ r. ⌜ (r ≡ stepsOf o sweep width height) × (1 ≤ r) × (r ≤ 16 * max (width + height) 1) ⌝ }
+{
+    let radius = number::max(number::max(o.a, o.b), 1.0);
+    let n = number::ceil_size(number::abs(sweep) * radius) * 2;
+    let most = most_steps(width, height);
+    if n < 1 {
+        return 1;
+    }
+    if n > most {
+        return most;
+    }
+    n
+}
+
+pub struct Spot {
+    pub x: i32,
+    pub y: i32,
+}
+
+// The point at step i; start and sweep are in radians.
+pub fn stroke_point(o: Oval, start: f32, sweep: f32, i: u32, steps: u32) -> Spot
+    ensures { λ r. ⌜ r ≡ strokePoint o start sweep i steps ⌝ }
+{
+    let along = sweep * std::num::nearest_u32_to_f32(i) / std::num::nearest_u32_to_f32(steps);
+    let t = angle::sine::sine_cosine(start + along);
+    Spot {
+        x: number::round_i32(o.cx + o.a * t.cosine),
+        y: number::round_i32(o.cy - o.b * t.sine),
+    }
+}
