@@ -49,7 +49,7 @@ pow-le-back i p h = go (lt-of-not-le (λ (g : suc p ≤ i). lt-irrefl (2 ^ p) (l
     go : i < suc p → i ≤ p
     go k = omega arith
 
-shift : (l m j : ℕ) (e : ℤ) → down e ≤ 2 ^ l → (i : ℕ) × (m * up e * (1 * 2 ^ j) * 2 ^ l ≡ m * 2 ^ i * (down e * 1))
+pub shift : (l m j : ℕ) (e : ℤ) → down e ≤ 2 ^ l → (i : ℕ) × (m * up e * (1 * 2 ^ j) * 2 ^ l ≡ m * 2 ^ i * (down e * 1))
 shift l m j (pos k) h = (
   k + j + l,
   ap (λ (x : ℕ). m * 2 ^ k * x * 2 ^ l) (one-mul (2 ^ j))
