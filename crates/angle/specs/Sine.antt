@@ -1,36 +1,49 @@
 -- "one written rule that determines the answer": the sine and the cosine in whole numbers, each step rounded down.
 -- Definitions only.
 use Prim.Native.Nat.{ℕ, _+_, _-_, _*_, _/_, _%_, _^_}
-use mathlib.Core.Bool.{Bool, false, cond}
-use lib.Dec.{leb, ltb}
-use lib.IntN.{natAbs}
-use lib.Ieee.{Float, binary32, neg, round}
-use Rattle.number.specs.Size.{signOf}
+use mathlib.Core.Bool.{Bool, true, false, _&&_, cond}
+use lib.Dec.{ltb}
+use lib.IntN.{pos}
+use lib.Ieee.{Float, fin, binary32, binary64, neg, add, le, toBits, round}
 use Rattle.angle.specs.declared.sine.SineCosine.{SineCosine}
-use Rattle.angle.specs.Meaning.{D, fact, parts, placed}
+use Rattle.angle.specs.Meaning.{fact, placed}
 
--- ---- the angle, in units of 2 ^ -59
+-- ---- the angle, in units of 2 ^ -46
 
 -- H, and half of it, cut.
 abbrev pub hUnits : ℕ
-hUnits = 0xC90_FDAA_2216_8C23
+hUnits = 0x6487_ED51_10B4
 
 abbrev pub halfH : ℕ
-halfH = 0x648_7ED5_110B_4611
+halfH = 0x3243_F6A8_885A
 
--- The size of t; 0 beyond 26 and for a NaN.
+-- 26 either way, and the 96 whose sum with an angle has its last digit at 2 ^ -46.
+abbrev pub least : Float
+least = fin true 13 (pos 1)
+
+abbrev pub most : Float
+most = fin false 13 (pos 1)
+
+abbrev pub ninetySix : Float
+ninetySix = fin false 3 (pos 5)
+
+-- t and 32, to the nearest; 32 beyond 26 and for a NaN.
 unfoldable pub unitsOf : Float → ℕ
-unitsOf t = cond (leb (natAbs (parts t)) (26 * D)) (natAbs (parts t) / 2 ^ 90) 0
+unitsOf t = cond (le least t && le t most) (toBits binary64 (add binary64 t ninetySix) - 0x4050_0000_0000_0000) 0x8_0000_0000_0000
 
--- k times H is nearest to n; whether that is more than n; and the rest, either way.
+-- The same from 20 times H and half of it below zero on: so k mod 4 is this k's.
+abbrev pub turnOf : ℕ → ℕ
+turnOf n = n + 0xCE2_80FD_D66A
+
+-- k times H is nearest to t; whether that is more than t; and the rest, either way.
 unfoldable pub kOf : ℕ → ℕ
-kOf n = (n + halfH) / hUnits
+kOf n = turnOf n / hUnits
 
 unfoldable pub shortOf : ℕ → Bool
-shortOf n = ltb ((n + halfH) % hUnits) halfH
+shortOf n = ltb (turnOf n % hUnits) halfH
 
 unfoldable pub restOf : ℕ → ℕ
-restOf n = let q = (n + halfH) % hUnits in cond (ltb q halfH) (halfH - q) (q - halfH)
+restOf n = let q = turnOf n % hUnits in cond (ltb q halfH) (halfH - q) (q - halfH)
 
 -- ---- the series, in units of 2 ^ -31
 
@@ -40,7 +53,7 @@ one31 = 0x8000_0000
 
 -- The rest, and its square.
 abbrev pub cutOf : ℕ → ℕ
-cutOf r = r / 2 ^ 28
+cutOf r = r / 2 ^ 15
 
 abbrev pub squareOf : ℕ → ℕ
 squareOf r = cutOf r * cutOf r / one31
@@ -60,7 +73,7 @@ over m = one31 / fact m
 
 -- r - r * z * (1 / 3! - z * (1 / 5! - z * (1 / 7! - z / 9!)))
 unfoldable pub sineFrom : ℕ → ℕ → ℕ
-sineFrom r z = r / 2 ^ 11 - cutOf r * timesOf z (lessOf (over 3) z (lessOf (over 5) z (lessOf (over 7) z (over 9)))) / 2 ^ 14
+sineFrom r z = r * 4 - cutOf r * timesOf z (lessOf (over 3) z (lessOf (over 5) z (lessOf (over 7) z (over 9)))) / 2 ^ 14
 
 -- 1 - z * (1 / 2! - z * (1 / 4! - z * (1 / 6! - z * (1 / 8! - z / 10!))))
 unfoldable pub cosineFrom : ℕ → ℕ
@@ -76,16 +89,19 @@ cosineUnits r = cosineFrom (squareOf r)
 unfoldable pub asF32 : Bool → ℕ → Float
 asF32 minus n = round binary32 minus n (2 ^ 48)
 
--- The sine has t's sign, a zero's too.
+-- The rest's sine, with a minus where the rest is taken off, and its cosine.
+unfoldable pub sineAt : Bool → ℕ → Float
+sineAt short r = asF32 short (sineUnits r)
+
+unfoldable pub cosineAt : ℕ → Float
+cosineAt r = asF32 false (cosineUnits r)
+
 unfoldable pub sineOf : Float → Float
-sineOf t =
-    let n = unitsOf t in
-    let y = placed neg (kOf n % 4) (asF32 (shortOf n) (sineUnits (restOf n))) (asF32 false (cosineUnits (restOf n))) in
-    cond (signOf t) (neg y) y
+sineOf t = let n = unitsOf t in placed neg (kOf n % 4) (sineAt (shortOf n) (restOf n)) (cosineAt (restOf n))
 
 -- The cosine stands a quarter turn on.
 unfoldable pub cosineOf : Float → Float
-cosineOf t = let n = unitsOf t in placed neg ((kOf n + 1) % 4) (asF32 (shortOf n) (sineUnits (restOf n))) (asF32 false (cosineUnits (restOf n)))
+cosineOf t = let n = unitsOf t in placed neg ((kOf n + 1) % 4) (sineAt (shortOf n) (restOf n)) (cosineAt (restOf n))
 
 unfoldable pub sineCosineOf : Float → SineCosine
 sineCosineOf t = record { sine = sineOf t; cosine = cosineOf t }

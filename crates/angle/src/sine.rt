@@ -1,4 +1,4 @@
-// Sine and cosine by whole numbers: the rest in units of 2^-59, its series in units of 2^-31, the answer in units of 2^-48.
+// Sine and cosine by whole numbers: the rest in units of 2^-46, its series in units of 2^-31, the answer in units of 2^-48.
 ghost use mathlib.Core.Path.{_≡_};
 ghost use Prim.Native.Nat.{_%_, _≤_};
 ghost use lib.Ieee.{neg};
@@ -26,7 +26,7 @@ fn square(rest: u64) -> u64
     requires { ⌜ rest ≤ halfH ⌝ }
     ensures { λ r. ⌜ (r ≡ squareOf rest) × (r ≤ one31) ⌝ }
 {
-    let p = rest / 0x1000_0000;
+    let p = rest / 0x8000;
     p * p / 0x8000_0000
 }
 
@@ -39,7 +39,7 @@ fn sine_units(rest: u64, z: u64) -> u64
         z,
         less(357913941, z, less(17895697, z, less(426088, z, 5917))),
     );
-    rest / 0x800 - rest / 0x1000_0000 * v / 0x4000
+    rest * 4 - rest / 0x8000 * v / 0x4000
 }
 
 // The rest's cosine, from its square.
@@ -59,15 +59,16 @@ fn cosine_units(z: u64) -> u64
     w * 0x2_0000
 }
 
-// The size of t in units of 2^-59; 0 beyond 26 and for a NaN.
+// t and 32, in units of 2^-46, where the sum's last digit stands; 32 beyond 26 and for a NaN.
 fn units_of(t: f32) -> u64
-    ensures { λ r. ⌜ (r ≡ unitsOf t) × (r ≤ 0xd000_0000_0000_0000) ⌝ }
+    ensures { λ r. ⌜ (r ≡ unitsOf t) × (r ≤ 0x10_0000_0000_0000) ⌝ }
 {
-    let x = number::abs(t);
-    if x <= 26.0 {
-        return std::num::truncating_f32_to_u64(x * 576460752303423488.0);
+    if t >= -26.0 {
+        if t <= 26.0 {
+            return f64::to_bits(t as f64 + 96.0) - 0x4050_0000_0000_0000;
+        }
     }
-    0
+    0x8_0000_0000_0000
 }
 
 // An angle as k times H and a rest, which is taken off where `short`.
@@ -78,23 +79,23 @@ struct Reduced {
 }
 
 fn reduce(n: u64) -> Reduced
-    requires { ⌜ n ≤ 0xd000_0000_0000_0000 ⌝ }
-    ensures { λ r. ⌜ (r .k ≡ kOf n) × (r .short ≡ shortOf n) × (r .rest ≡ restOf n) × (r .rest ≤ halfH) × (r .k ≤ 32) ⌝ }
+    requires { ⌜ n ≤ 0x10_0000_0000_0000 ⌝ }
+    ensures { λ r. ⌜ (r .k ≡ kOf n) × (r .short ≡ shortOf n) × (r .rest ≡ restOf n) × (r .rest ≤ halfH) × (r .k ≤ 48) ⌝ }
 {
-    let a = n + 0x648_7ed5_110b_4611;
-    let k = a / 0xc90_fdaa_2216_8c23;
-    let q = a % 0xc90_fdaa_2216_8c23;
-    if q < 0x648_7ed5_110b_4611 {
+    let a = n + 0xce2_80fd_d66a;
+    let k = a / 0x6487_ed51_10b4;
+    let q = a % 0x6487_ed51_10b4;
+    if q < 0x3243_f6a8_885a {
         Reduced {
             k,
             short: true,
-            rest: 0x648_7ed5_110b_4611 - q,
+            rest: 0x3243_f6a8_885a - q,
         }
     } else {
         Reduced {
             k,
             short: false,
-            rest: q - 0x648_7ed5_110b_4611,
+            rest: q - 0x3243_f6a8_885a,
         }
     }
 }
@@ -141,9 +142,5 @@ pub fn sine_cosine(t: f32) -> SineCosine
     let c = as_f32(false, cosine_units(z));
     let y = placed_at(a.k, s, c);
     let cosine = placed_at(a.k + 1, s, c);
-    if number::is_sign_negative(t) {
-        SineCosine { sine: -y, cosine }
-    } else {
-        SineCosine { sine: y, cosine }
-    }
+    SineCosine { sine: y, cosine }
 }

@@ -55,6 +55,8 @@ pub record Shown (K v num den : ℕ) (y : Float) : Type 0 where
   pub q : ℕ
   pub bits : toBits binary64 y ≡ K * 2 ^ 52 + q
   pub number : T (not (isNan y))
+  pub least : 2 ^ 52 ≤ q
+  pub most : q < 2 ^ 53
   pub low : num * v / den ≤ q
   pub high : q ≤ suc (num * v / den)
   pub exact : (c : ℕ) → num * v ≡ c * den → q ≡ c
@@ -147,6 +149,8 @@ module _ (p w K num den : ℕ) (ek : suc (p + 1074) - 53 ≡ K) (ew : w + K ≡ 
     q = q;
     bits = bits-is K (round binary64 false num den) q value at-least at-most;
     number = number (round binary64 false num den) (q * 2 ^ K) (2 ^ 1074) value;
+    least = at-least;
+    most = at-most;
     low = low-q;
     high = high-q;
     exact = exact-q;

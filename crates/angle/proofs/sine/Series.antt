@@ -1,4 +1,4 @@
--- The rule's series lies within 0x9E0000 units of 2 ^ -48 of the nine exact terms: each rounded step adds 5 units of
+-- The rule's series lies within 0xB00000 units of 2 ^ -48 of the nine exact terms: each rounded step adds 7 units of
 -- 2 ^ -31 to the error of the one inside it. Assumes nothing.
 use mathlib.Core.Path.{_≡_, refl, sym, ap, _∙_, subst}
 use mathlib.Core.List.{List, [], _∷_}
@@ -11,11 +11,7 @@ use Rattle.angle.specs.Sine.{one31, halfH, cutOf, squareOf, timesOf, les
 use Rattle.angle.proofs.Nested.{top, bottom, divs}
 use Rattle.angle.proofs.Terms.{sinAt, cosAt, nested}
 use Rattle.angle.proofs.sine.Products.{Near, product, small-at}
-use Rattle.angle.proofs.sine.Rest.{step}
-
-pub D-is : D ≡ 0x800_0000_0000_0000 * step
-unfolding D step
-D-is = refl
+use Rattle.angle.proofs.sine.Units.{step, D-is}
 
 pub D-pos : 0 < D
 unfolding D
@@ -49,7 +45,7 @@ pub sin-le : (r z : ℕ) → r ≤ halfH → sineFrom r z ≤ 0x1_0000_0000_0000
 unfolding sineFrom
 sin-le r z h = go (cutOf r * timesOf z (lessOf (over 3) z (lessOf (over 5) z (lessOf (over 7) z (over 9)))) / 2 ^ 14)
   where
-    go : (k : ℕ) → r / 2 ^ 11 - k ≤ 0x1_0000_0000_0000
+    go : (k : ℕ) → r * 4 - k ≤ 0x1_0000_0000_0000
     go k = omega arith
 
 pub cos-le : (z : ℕ) → cosineFrom z ≤ 0x1_0000_0000_0000
@@ -95,8 +91,8 @@ pos-right : (f d : ℕ) → 0 < f * d → 0 < d
 pos-right f zero h = absurd (lt-irrefl 0 (subst (λ (z : ℕ). 0 < z) (mul-zero f) h))
 pos-right f (suc d) h = zero-lt-suc d
 
--- ---- p / one31 is 1 / one31 from a / c at most
-module _ (p a c : ℕ) (ac : a ≤ c) (pu : p ≤ one31) (hp : Near (p * c) (a * one31) (1 * c)) where
+-- ---- p / one31 is 2 / one31 from a / c at most
+module _ (p a c : ℕ) (ac : a ≤ c) (pu : p ≤ one31) (hp : Near (p * c) (a * one31) (2 * c)) where
   abbrev z : ℕ
   z = p * p / one31
 
@@ -112,11 +108,11 @@ module _ (p a c : ℕ) (ac : a ≤ c) (pu : p ≤ one31) (hp : Near (p * c) (a *
   zu : z ≤ one31
   zu = small-at one31 1 p p (lit< tt) pu pu
 
-  zq : Near (z * Q) (Y * one31) (3 * Q)
-  zq = simp one-mul at (product one31 1 p p a c a c 1 1 3 (lit< tt) (lit< tt) pu pu ac ac hp hp (lit≤ tt))
+  zq : Near (z * Q) (Y * one31) (5 * Q)
+  zq = simp one-mul at (product one31 1 p p a c a c 2 2 5 (lit< tt) (lit< tt) pu pu ac ac hp hp (lit≤ tt))
 
   -- h stands for 1 / f less the terms from there on: d is what the next factorial is more
-  more : (A f d h ε ε' : ℕ) (ds : List ℕ) → A * f ≤ one31 → one31 ≤ A * f + f → h ≤ A → A ≤ one31 → 0 < f * d → 5 + ε ≤ ε' → Near (h * (f * d * bottom ds Q)) (top ds Y Q * one31) (ε * (f * d * bottom ds Q))
+  more : (A f d h ε ε' : ℕ) (ds : List ℕ) → A * f ≤ one31 → one31 ≤ A * f + f → h ≤ A → A ≤ one31 → 0 < f * d → 7 + ε ≤ ε' → Near (h * (f * d * bottom ds Q)) (top ds Y Q * one31) (ε * (f * d * bottom ds Q))
       → Near (lessOf A z h * (f * bottom (d ∷ ds) Q)) (top (d ∷ ds) Y Q * one31) (ε' * (f * bottom (d ∷ ds) Q))
   unfolding top bottom lessOf timesOf
   more A f d h ε ε' ds al ah hA Au fd grow n =
@@ -124,10 +120,10 @@ module _ (p a c : ℕ) (ac : a ≤ c) (pu : p ≤ one31) (hp : Near (p * c) (a *
       let b = bottom ds Q in
       let k = z * h / one31 in
       let small : k ≤ A = le-trans (unfold timesOf in times-le z h zu) hA in
-      let q : Near (k * (Q * (f * d * b))) (Y * t * one31) ((4 + ε) * (Q * (f * d * b))) =
-      simp one-mul at (product one31 1 z h Y Q t (f * d * b) 3 ε (4 + ε) (lit< tt) (lit< tt) (le-trans hA Au) zu YQ (le-trans (under ds Y Q) (many b)) zq n (omega arith)) in
-      taken (A - k) k A (d * Q * b) (f * (d * Q * b)) (Y * t) one31 f (4 + ε) ε' (d * Q * b - Y * t) (omega arith) (sub-add-cancel (room t b (under ds Y Q))) refl al ah
-      (subst (λ (m : ℕ). Near (k * m) (Y * t * one31) ((4 + ε) * m)) (turn Q f d b) q) (omega arith)
+      let q : Near (k * (Q * (f * d * b))) (Y * t * one31) ((6 + ε) * (Q * (f * d * b))) =
+      simp one-mul at (product one31 1 z h Y Q t (f * d * b) 5 ε (6 + ε) (lit< tt) (lit< tt) (le-trans hA Au) zu YQ (le-trans (under ds Y Q) (many b)) zq n (omega arith)) in
+      taken (A - k) k A (d * Q * b) (f * (d * Q * b)) (Y * t) one31 f (6 + ε) ε' (d * Q * b - Y * t) (omega arith) (sub-add-cancel (room t b (under ds Y Q))) refl al ah
+      (subst (λ (m : ℕ). Near (k * m) (Y * t * one31) ((6 + ε) * m)) (turn Q f d b) q) (omega arith)
     where
       many : (b : ℕ) → b ≤ f * d * b
       many b = omega (arith, mul-le-mul-right b fd)
@@ -149,44 +145,44 @@ module _ (p a c : ℕ) (ac : a ≤ c) (pu : p ≤ one31) (hp : Near (p * c) (a *
       let yt : Y * t ≤ Q * b = mul-le-mul YQ (under ds Y Q) in
       started A (d * Q * b) (Y * t) one31 f ε d (Q * b) (d * Q * b - Y * t) (sub-add-cancel (omega (arith, mul-le-mul-right (Q * b) dp))) (mul-assoc d Q b) yt al ah ep h
 
-  sin-level : Near (lessOf one31 z (lessOf (over 3) z (lessOf (over 5) z (lessOf (over 7) z (over 9)))) * (1 * bottom (divs 8 1) Q)) (top (divs 8 1) Y Q * one31) (74 * (1 * bottom (divs 8 1) Q))
+  sin-level : Near (lessOf one31 z (lessOf (over 3) z (lessOf (over 5) z (lessOf (over 7) z (over 9)))) * (1 * bottom (divs 8 1) Q)) (top (divs 8 1) Y Q * one31) (82 * (1 * bottom (divs 8 1) Q))
   unfolding fact
   sin-level =
-      more one31 1 6 _ 69 74 (divs 7 3) (lit≤ tt) (lit≤ tt) (le-trans (less-le (over 3) z _) (lit≤ tt)) (lit≤ tt) (lit< tt) (lit≤ tt)
-      (more (over 3) 6 20 _ 64 69 (divs 6 5) (lit≤ tt) (lit≤ tt) (le-trans (less-le (over 5) z _) (lit≤ tt)) (lit≤ tt) (lit< tt) (lit≤ tt)
-      (more (over 5) 120 42 _ 59 64 (divs 5 7) (lit≤ tt) (lit≤ tt) (le-trans (less-le (over 7) z _) (lit≤ tt)) (lit≤ tt) (lit< tt) (lit≤ tt)
-      (more (over 7) 5040 72 (over 9) 54 59 (divs 4 9) (lit≤ tt) (lit≤ tt) (lit≤ tt) (lit≤ tt) (lit< tt) (lit≤ tt)
+      more one31 1 6 _ 75 82 (divs 7 3) (lit≤ tt) (lit≤ tt) (le-trans (less-le (over 3) z _) (lit≤ tt)) (lit≤ tt) (lit< tt) (lit≤ tt)
+      (more (over 3) 6 20 _ 68 75 (divs 6 5) (lit≤ tt) (lit≤ tt) (le-trans (less-le (over 5) z _) (lit≤ tt)) (lit≤ tt) (lit< tt) (lit≤ tt)
+      (more (over 5) 120 42 _ 61 68 (divs 5 7) (lit≤ tt) (lit≤ tt) (le-trans (less-le (over 7) z _) (lit≤ tt)) (lit≤ tt) (lit< tt) (lit≤ tt)
+      (more (over 7) 5040 72 (over 9) 54 61 (divs 4 9) (lit≤ tt) (lit≤ tt) (lit≤ tt) (lit≤ tt) (lit< tt) (lit≤ tt)
       (begin (over 9) 362880 110 54 (divs 3 11) (lit≤ tt) (lit≤ tt) (lit< tt) (lit< tt) (lit≤ tt)))))
 
-  cos-level : Near (lessOf (over 0) z (lessOf (over 2) z (lessOf (over 4) z (lessOf (over 6) z (lessOf (over 8) z (over 10))))) * (1 * bottom (divs 8 0) Q)) (top (divs 8 0) Y Q * one31) (30 * (1 * bottom (divs 8 0) Q))
+  cos-level : Near (lessOf (over 0) z (lessOf (over 2) z (lessOf (over 4) z (lessOf (over 6) z (lessOf (over 8) z (over 10))))) * (1 * bottom (divs 8 0) Q)) (top (divs 8 0) Y Q * one31) (40 * (1 * bottom (divs 8 0) Q))
   unfolding fact
   cos-level =
-      more (over 0) 1 2 _ 25 30 (divs 7 2) (lit≤ tt) (lit≤ tt) (le-trans (less-le (over 2) z _) (lit≤ tt)) (lit≤ tt) (lit< tt) (lit≤ tt)
-      (more (over 2) 2 12 _ 20 25 (divs 6 4) (lit≤ tt) (lit≤ tt) (le-trans (less-le (over 4) z _) (lit≤ tt)) (lit≤ tt) (lit< tt) (lit≤ tt)
-      (more (over 4) 24 30 _ 15 20 (divs 5 6) (lit≤ tt) (lit≤ tt) (le-trans (less-le (over 6) z _) (lit≤ tt)) (lit≤ tt) (lit< tt) (lit≤ tt)
-      (more (over 6) 720 56 _ 10 15 (divs 4 8) (lit≤ tt) (lit≤ tt) (le-trans (less-le (over 8) z _) (lit≤ tt)) (lit≤ tt) (lit< tt) (lit≤ tt)
-      (more (over 8) 40320 90 (over 10) 5 10 (divs 3 10) (lit≤ tt) (lit≤ tt) (lit≤ tt) (lit≤ tt) (lit< tt) (lit≤ tt)
+      more (over 0) 1 2 _ 33 40 (divs 7 2) (lit≤ tt) (lit≤ tt) (le-trans (less-le (over 2) z _) (lit≤ tt)) (lit≤ tt) (lit< tt) (lit≤ tt)
+      (more (over 2) 2 12 _ 26 33 (divs 6 4) (lit≤ tt) (lit≤ tt) (le-trans (less-le (over 4) z _) (lit≤ tt)) (lit≤ tt) (lit< tt) (lit≤ tt)
+      (more (over 4) 24 30 _ 19 26 (divs 5 6) (lit≤ tt) (lit≤ tt) (le-trans (less-le (over 6) z _) (lit≤ tt)) (lit≤ tt) (lit< tt) (lit≤ tt)
+      (more (over 6) 720 56 _ 12 19 (divs 4 8) (lit≤ tt) (lit≤ tt) (le-trans (less-le (over 8) z _) (lit≤ tt)) (lit≤ tt) (lit< tt) (lit≤ tt)
+      (more (over 8) 40320 90 (over 10) 5 12 (divs 3 10) (lit≤ tt) (lit≤ tt) (lit≤ tt) (lit≤ tt) (lit< tt) (lit≤ tt)
       (begin (over 10) 3628800 132 5 (divs 2 12) (lit≤ tt) (lit≤ tt) (lit< tt) (lit< tt) (lit≤ tt))))))
 
-  sin-product : (w : ℕ) → w ≤ one31 → Near (w * (1 * bottom (divs 8 1) Q)) (top (divs 8 1) Y Q * one31) (74 * (1 * bottom (divs 8 1) Q)) → Near (p * w / one31 * (c * bottom (divs 8 1) Q)) (a * top (divs 8 1) Y Q * one31) (76 * (c * bottom (divs 8 1) Q))
-  sin-product w h n = simp one-mul at (product one31 1 p w a c (top (divs 8 1) Y Q) (bottom (divs 8 1) Q) 1 74 76 (lit< tt) (lit< tt) h pu ac (under (divs 8 1) Y Q) hp (simp one-mul at n) (lit≤ tt))
+  sin-product : (w : ℕ) → w ≤ one31 → Near (w * (1 * bottom (divs 8 1) Q)) (top (divs 8 1) Y Q * one31) (82 * (1 * bottom (divs 8 1) Q)) → Near (p * w / one31 * (c * bottom (divs 8 1) Q)) (a * top (divs 8 1) Y Q * one31) (85 * (c * bottom (divs 8 1) Q))
+  sin-product w h n = simp one-mul at (product one31 1 p w a c (top (divs 8 1) Y Q) (bottom (divs 8 1) Q) 2 82 85 (lit< tt) (lit< tt) h pu ac (under (divs 8 1) Y Q) hp (simp one-mul at n) (lit≤ tt))
 
 -- ---- in units of 2 ^ -48
 -- r - p * v is p * w, up to three units of 2 ^ -31
-fine : (r p v w : ℕ) → p ≡ r / 2 ^ 28 → w + v ≡ one31 → (p * w / one31 * 0x2_0000 ≤ r / 2 ^ 11 - p * v / 2 ^ 14) × (r / 2 ^ 11 - p * v / 2 ^ 14 ≤ p * w / one31 * 0x2_0000 + 0x6_0000)
-fine r p v w e f = go (p * w) (p * v) (r / 2 ^ 11) (omega arith) (omega arith) (omega (arith, ap (λ (k : ℕ). p * k) f))
+fine : (r p v w : ℕ) → p ≡ r / 2 ^ 15 → w + v ≡ one31 → (p * w / one31 * 0x2_0000 ≤ r * 4 - p * v / 2 ^ 14) × (r * 4 - p * v / 2 ^ 14 ≤ p * w / one31 * 0x2_0000 + 0x6_0000)
+fine r p v w e f = go (p * w) (p * v) (r * 4) (omega arith) (omega arith) (omega (arith, ap (λ (k : ℕ). p * k) f))
   where
     go : (x y k : ℕ) → p * 0x2_0000 ≤ k → k ≤ p * 0x2_0000 + 0x2_0000 → x + y ≡ p * one31 → (x / one31 * 0x2_0000 ≤ k - y / 2 ^ 14) × (k - y / 2 ^ 14 ≤ x / one31 * 0x2_0000 + 0x6_0000)
     go x y k a b g = (omega arith, omega arith)
 
 -- a bound at 2 ^ -31, e of them, where n is three of them off at most
-finer : (q n A B : ℕ) → q * 0x2_0000 ≤ n → n ≤ q * 0x2_0000 + 0x6_0000 → Near (q * B) (A * one31) (76 * B) → Near (n * B) (A * 2 ^ 48) (0x9e_0000 * B)
+finer : (q n A B : ℕ) → q * 0x2_0000 ≤ n → n ≤ q * 0x2_0000 + 0x6_0000 → Near (q * B) (A * one31) (85 * B) → Near (n * B) (A * 2 ^ 48) (0xb0_0000 * B)
 finer q n A B a b h = record {
   hi = omega (arith, mul-le-mul-right B b, h .hi);
   lo = omega (arith, mul-le-mul-right B a, h .lo);
 }
 
-wider : (w A B : ℕ) → Near (w * B) (A * one31) (30 * B) → Near (w * 2 ^ 17 * B) (A * 2 ^ 48) (0x9e_0000 * B)
+wider : (w A B : ℕ) → Near (w * B) (A * one31) (40 * B) → Near (w * 2 ^ 17 * B) (A * 2 ^ 48) (0xb0_0000 * B)
 wider w A B h = record { hi = omega (arith, h .hi); lo = omega (arith, h .lo) }
 
 coef-1 : coef 1 * D ≡ whole
@@ -197,18 +193,18 @@ coef-0 : coef 0 ≡ whole
 unfolding coef whole
 coef-0 = refl
 
--- ---- the two answers, at r units of 2 ^ -59, against the terms at y
-module _ (r y : ℕ) (lo : r * step ≤ y) (hi : y ≤ r * step + step) (rl : r ≤ halfH) (yD : y ≤ D) where
+-- ---- the two answers, at r units of 2 ^ -46, against the terms at y
+module _ (r y : ℕ) (lo : r * step ≤ y + 8 * step) (hi : y ≤ r * step + 8 * step) (rl : r ≤ halfH) (yD : y ≤ D) where
   abbrev p : ℕ
   p = cutOf r
 
   pu : p ≤ one31
   pu = omega arith
 
-  near : Near (p * D) (y * one31) (1 * D)
-  near = subst (λ (d : ℕ). Near (p * d) (y * one31) (1 * d)) (sym D-is) (go p (omega arith) (omega arith))
+  near : Near (p * D) (y * one31) (2 * D)
+  near = subst (λ (d : ℕ). Near (p * d) (y * one31) (2 * d)) (sym D-is) (go p (omega arith) (omega arith))
     where
-      go : (p : ℕ) → p * 0x1000_0000 ≤ r → r + 1 ≤ p * 0x1000_0000 + 0x1000_0000 → Near (p * (0x800_0000_0000_0000 * step)) (y * one31) (1 * (0x800_0000_0000_0000 * step))
+      go : (p : ℕ) → p * 0x8000 ≤ r → r + 1 ≤ p * 0x8000 + 0x8000 → Near (p * (0x4000_0000_0000 * step)) (y * one31) (2 * (0x4000_0000_0000 * step))
       go p a b = record { hi = omega (arith, mul-le-mul-right step a); lo = omega (arith, mul-le-mul-right step b) }
 
   Q-pos : 0 < D * D
@@ -225,23 +221,23 @@ module _ (r y : ℕ) (lo : r * step ≤ y) (hi : y ≤ r * step + step) (rl : r 
   cos-whole =
       nested y yD 8 0 (lit≤ tt) ∙ ap (λ (z : ℕ). z * top (divs 8 0) (y * y) (D * D)) (ap (λ (k : ℕ). coef 0 * k) (pow-zero y) ∙ mul-one (coef 0) ∙ coef-0)
 
-  pub sin-near : Near (sineUnits r * whole) (sinAt y * 2 ^ 48) (0x9e_0000 * whole)
+  pub sin-near : Near (sineUnits r * whole) (sinAt y * 2 ^ 48) (0xb0_0000 * whole)
   unfolding sineFrom lessOf
   sin-near =
       let x = squareOf r in
       let u = lessOf (over 3) x (lessOf (over 5) x (lessOf (over 7) x (over 9))) in
       let v = timesOf x u in
       let f = fine r p v (one31 - v) refl (sub-add-cancel (le-trans (times-le x u (zu p y D yD pu near)) (le-trans (less-le (over 3) x (lessOf (over 5) x (lessOf (over 7) x (over 9)))) (unfold fact in lit≤ tt)))) in
-      carry (sineUnits r) (y * top (divs 8 1) (y * y) (D * D)) (D * bottom (divs 8 1) (D * D)) whole (sinAt y) (2 ^ 48) 0x9e_0000
+      carry (sineUnits r) (y * top (divs 8 1) (y * y) (D * D)) (D * bottom (divs 8 1) (D * D)) whole (sinAt y) (2 ^ 48) 0xb0_0000
       (mul-pos D-pos (bottom-pos 8 1 (D * D) Q-pos)) sin-whole
-      (finer (p * (one31 - v) / one31) (r / 2 ^ 11 - p * v / 2 ^ 14) (y * top (divs 8 1) (y * y) (D * D)) (D * bottom (divs 8 1) (D * D)) (f .0) (f .1)
+      (finer (p * (one31 - v) / one31) (r * 4 - p * v / 2 ^ 14) (y * top (divs 8 1) (y * y) (D * D)) (D * bottom (divs 8 1) (D * D)) (f .0) (f .1)
       (sin-product p y D yD pu near (lessOf one31 x u) (less-le one31 x u) (sin-level p y D yD pu near)))
 
-  pub cos-near : Near (cosineUnits r * whole) (cosAt y * 2 ^ 48) (0x9e_0000 * whole)
+  pub cos-near : Near (cosineUnits r * whole) (cosAt y * 2 ^ 48) (0xb0_0000 * whole)
   unfolding cosineFrom
   cos-near =
       let x = squareOf r in
       let w = lessOf (over 0) x (lessOf (over 2) x (lessOf (over 4) x (lessOf (over 6) x (lessOf (over 8) x (over 10))))) in
-      carry (cosineUnits r) (top (divs 8 0) (y * y) (D * D)) (bottom (divs 8 0) (D * D)) whole (cosAt y) (2 ^ 48) 0x9e_0000
+      carry (cosineUnits r) (top (divs 8 0) (y * y) (D * D)) (bottom (divs 8 0) (D * D)) whole (cosAt y) (2 ^ 48) 0xb0_0000
       (bottom-pos 8 0 (D * D) Q-pos) cos-whole
       (wider w (top (divs 8 0) (y * y) (D * D)) (bottom (divs 8 0) (D * D)) (simp one-mul at (cos-level p y D yD pu near)))

@@ -23,19 +23,22 @@ times-requires : tie.Need-times-requires
 times-requires c κs = search needs
 
 -- over the product
-few : (r v : ℕ) → r ≤ halfH → v ≤ one31 → r / 0x1000_0000 * v ≤ r / 0x1000_0000 * one31
-few r v h k = mul-le-mul-left (r / 0x1000_0000) k
+few : (r v : ℕ) → r ≤ halfH → v ≤ one31 → r / 0x8000 * v ≤ r / 0x8000 * one31
+few r v h k = mul-le-mul-left (r / 0x8000) k
 
 small : (c : tie.After-times) → c .times .result ≤ one31
 small c = omega (arith, c .times .ensures .1, c .before .less3 .ensures .1)
 
 mul-result : tie.Need-mul-result
-mul-result c = omega (arith, few (c .before .before .before .before .args .rest) (c .times .result) (c .before .before .before .before .pre .0) (small c))
+mul-result c = search needs
+
+mul-result-2 : tie.Need-mul-result-2
+mul-result-2 c = omega (arith, few (c .before .before .before .before .args .rest) (c .times .result) (c .before .before .before .before .pre .0) (small c))
 
 sub-result : tie.Need-sub-result
 sub-result c = omega (arith, few (c .before .before .before .before .args .rest) (c .times .result) (c .before .before .before .before .pre .0) (small c))
 
-is : (r z a b d v : ℕ) → a ≡ lessOf 426088 z 5917 → b ≡ lessOf 17895697 z a → d ≡ lessOf 357913941 z b → v ≡ timesOf z d → r / 0x800 - r / 0x1000_0000 * v / 0x4000 ≡ sineFrom r z
+is : (r z a b d v : ℕ) → a ≡ lessOf 426088 z 5917 → b ≡ lessOf 17895697 z a → d ≡ lessOf 357913941 z b → v ≡ timesOf z d → r * 4 - r / 0x8000 * v / 0x4000 ≡ sineFrom r z
 unfolding sineFrom fact
 is r z a b d v f g h i = cc
 
@@ -49,4 +52,4 @@ returns c =
     (e, subst (λ (k : ℕ). k ≤ 0x1_0000_0000_0000) (sym e) (sin-le (a .args .rest) (a .args .z) (a .pre .0)))
 
 pub sine-units-spec : {M : Type 1} → statement M
-sine-units-spec = tie.close (tie.spec less-requires less-requires-2 less-requires-3 times-requires mul-result sub-result returns)
+sine-units-spec = tie.close (tie.spec less-requires less-requires-2 less-requires-3 times-requires mul-result mul-result-2 sub-result returns)
