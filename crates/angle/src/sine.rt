@@ -1,6 +1,8 @@
 // Sine and cosine by whole numbers: the rest in units of 2^-46, its series in units of 2^-31, the answer in units of 2^-48.
 ghost use mathlib.Core.Path.{_≡_};
 ghost use Prim.Native.Nat.{_%_, _≤_};
+ghost use mathlib.Core.Bool.{cond};
+ghost use lib.Dec.{eqb};
 ghost use lib.Ieee.{neg};
 ghost use Rattle.angle.specs.Meaning.{placed};
 ghost use Rattle.angle.specs.Sine.{one31, halfH, unitsOf, kOf, shortOf, restOf, squareOf, timesOf, lessOf, sineFrom, cosineFrom, asF32, sineCosineOf};
@@ -110,21 +112,25 @@ fn as_f32(minus: bool, n: u64) -> f32
     if minus { -(high + low) } else { high + low }
 }
 
+// s at an even quarter, and c at an odd one.
+fn even_or_odd(k: u64, s: f32, c: f32) -> f32
+    ensures { λ r. ⌜ r ≡ cond (eqb (k % 2) 0) s c ⌝ }
+{
+    if k % 2 == 0 {
+        return s;
+    }
+    c
+}
+
 // s and c are the rest's sine and cosine, placed by k mod 4.
 fn placed_at(k: u64, s: f32, c: f32) -> f32
     ensures { λ r. ⌜ r ≡ placed neg (k % 4) s c ⌝ }
 {
-    let m = k % 4;
-    if m == 0 {
-        return s;
+    let v = even_or_odd(k, s, c);
+    if k % 4 < 2 {
+        return v;
     }
-    if m == 1 {
-        return c;
-    }
-    if m == 2 {
-        return -s;
-    }
-    -c
+    -v
 }
 
 pub struct SineCosine {
