@@ -44,11 +44,11 @@ bits-is K (fin false m e) q v lo hi =
     plain : (a q : ℕ) → 0 + a + q ≡ a + q
     plain a q = omega arith
 
-number : (y : Float) (a c : ℕ) → HasValue y false a c → T (not (isNan y))
+pub is-number : (y : Float) (a c : ℕ) → HasValue y false a c → T (not (isNan y))
 unfolding isNan
-number nan a c v = absurd v
-number (inf s) a c v = absurd v
-number (fin s m e) a c v = tt
+is-number nan a c v = absurd v
+is-number (inf s) a c v = absurd v
+is-number (fin s m e) a c v = tt
 
 -- y is the f64 nearest to num / den, and q counts its last digits.
 pub record Shown (K v num den : ℕ) (y : Float) : Type 0 where
@@ -148,7 +148,7 @@ module _ (p w K num den : ℕ) (ek : suc (p + 1074) - 53 ≡ K) (ew : w + K ≡ 
   shown = record {
     q = q;
     bits = bits-is K (round binary64 false num den) q value at-least at-most;
-    number = number (round binary64 false num den) (q * 2 ^ K) (2 ^ 1074) value;
+    number = is-number (round binary64 false num den) (q * 2 ^ K) (2 ^ 1074) value;
     least = at-least;
     most = at-most;
     low = low-q;

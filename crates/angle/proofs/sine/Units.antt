@@ -3,15 +3,14 @@ use mathlib.Core.Path.{_≡_, refl, sym, ap, _∙_, subst}
 use mathlib.Core.Logic.{_⊎_, inl, inr}
 use mathlib.Core.Bool.{Bool, true, false, not, cond, _&&_, _||_}
 use Prim.Native.Nat.{ℕ, suc, _+_, _-_, _*_, _/_, _^_, _≤_, _<_}
-use native.Mathlib.Nat.{le-trans, lt-of-lt-of-le, lt-of-not-le, not-le-of-lt, mul-le-mul-right, mul-lt-mul-of-pos-right, lt-of-mul-lt-mul-right, le-of-mul-le-mul-right, div-le-of-le-mul, div-lt-iff-lt-mul, div-mul-le-self, lt-div-mul-add, mul-div-cancel, le-div-iff-mul-le}
+use native.Mathlib.Nat.{le-trans, mul-le-mul-right, mul-lt-mul-of-pos-right, lt-of-mul-lt-mul-right, le-of-mul-le-mul-right, div-le-of-le-mul, div-lt-iff-lt-mul, div-mul-le-self, lt-div-mul-add, mul-div-cancel, le-div-iff-mul-le}
 use native.Mathlib.Omega.{arith}
 use lib.Dec.{T, leb, leb→le, nleb→lt, nltb→le, lit≤, lit<, ltb, eqb}
-use lib.Pow.{pow-mono}
-use lib.IntN.{ℤ, pos, negsuc, natAbs}
+use lib.IntN.{ℤ, natAbs}
 use lib.Ieee.{Float, nan, inf, fin, binary32, binary64, up, down, round, add, fits, toBits, isNan, le, lt, eq}
 use lib.Ieee.Fits.{down-pos}
 use borrow.Author.Tests.{lt-ltb}
-use Rattle.number.proofs.Powers.{few, shift, shallow}
+use Rattle.number.proofs.Powers.{on-grid, shallow}
 use Rattle.number.proofs.Range.{le-yes, le-yes', le-no, le-no'}
 use Rattle.number.proofs.Shown.{Shown, shown}
 use Rattle.angle.specs.Meaning.{D, parts}
@@ -77,27 +76,7 @@ sum-shown true m e l =
 
 -- the angle is a multiple of 2 ^ -24, or below a half
 abbrev Grid : ℕ → ℕ → Type 0
-Grid a d = ((c : ℕ) × (a * 2 ^ 24 ≡ c * d)) ⊎ (2 * a < d)
-
-grid : (s : Bool) (m : ℕ) (e : ℤ) → T (fits binary32 (fin s m e)) → Grid (m * up e) (down e)
-grid s m e f = go (leb (down e) (2 ^ 24)) (leb→le (down e) (2 ^ 24)) (nleb→lt (down e) (2 ^ 24))
-  where
-    deep : (e : ℤ) → T (fits binary32 (fin s m e)) → 2 ^ 24 < down e → 2 * (m * up e) < down e
-    deep (pos k) f h = absurd (no h)
-      where
-        no : 2 ^ 24 < 1 → ⊥
-        no h = omega arith
-    deep (negsuc k) f h = lt-of-lt-of-le (two m (few binary32 s m (negsuc k) f)) (pow-mono (lt-of-not-le (λ (g : suc k ≤ 24). not-le-of-lt h (pow-mono g))))
-      where
-        two : (m : ℕ) → m < 2 ^ 24 → 2 * (m * 1) < 2 ^ 25
-        two m h = omega arith
-
-    go : (b : Bool) → (T b → down e ≤ 2 ^ 24) → (T (not b) → 2 ^ 24 < down e) → Grid (m * up e) (down e)
-    go true g h = let z = shift 24 m 0 e (g tt) in inl (m * 2 ^ z .0, tidy (m * up e) (m * 2 ^ z .0) (down e) (z .1))
-      where
-        tidy : (a c d : ℕ) → a * (1 * 2 ^ 0) * 2 ^ 24 ≡ c * (d * 1) → a * 2 ^ 24 ≡ c * d
-        tidy a c d h = omega arith
-    go false g h = inr (deep e f (h tt))
+Grid a d = ((c : ℕ) × (a * 2 ^ 24 ≡ c * d)) ⊎ (a * 2 ^ 1 < d)
 
 -- ---- q is the count of the sum
 module _ (a d : ℕ) (dp : 0 < d) (l : a ≤ 26 * d) where
@@ -112,10 +91,10 @@ module _ (a d : ℕ) (dp : 0 < d) (l : a ≤ 26 * d) where
   few-units c e = le-of-mul-le-mul-right {k = d} (omega arith) dp
 
   -- within one unit
-  under : 2 * a < d → a * D / d < 2 ^ 45 * step
+  under : a * 2 ^ 1 < d → a * D / d < 2 ^ 45 * step
   under h = div-lt-iff-lt-mul dp .1 (subst (λ (z : ℕ). a * z < 2 ^ 45 * step * d) (sym D-is) (go step h (unfold step in lit< tt)))
     where
-      go : (r : ℕ) → 2 * a < d → 0 < r → a * (0x4000_0000_0000 * r) < 2 ^ 45 * r * d
+      go : (r : ℕ) → a * 2 ^ 1 < d → 0 < r → a * (0x4000_0000_0000 * r) < 2 ^ 45 * r * d
       go r h p = omega (arith, mul-lt-mul-of-pos-right h p)
 
   within : (v : ℕ) → v * d ≤ a * 2 ^ 46 + d → a * 2 ^ 46 ≤ v * d + d → (v * step ≤ a * D / d + step) × (a * D / d ≤ v * step + step)
@@ -137,7 +116,7 @@ module _ (a d : ℕ) (dp : 0 < d) (l : a ≤ 26 * d) where
   cut : (num F q : ℕ) → F * d ≤ num * 2 ^ 46 → num * 2 ^ 46 < F * d + d → F ≤ q → q ≤ suc F → (q * d ≤ num * 2 ^ 46 + d) × (num * 2 ^ 46 ≤ q * d + d)
   cut num F q f g lo hi = (omega (arith, mul-le-mul-right d hi), omega (arith, mul-le-mul-right d lo))
 
-  below : 2 * a < d → (q : ℕ) → q * d ≤ (a * 1 + 3 * 2 ^ 5 * d) * 2 ^ 46 + d → (a * 1 + 3 * 2 ^ 5 * d) * 2 ^ 46 ≤ q * d + d → 3 * 2 ^ 51 ≤ q → Counted false (a * D / d) (q - 2 ^ 52)
+  below : a * 2 ^ 1 < d → (q : ℕ) → q * d ≤ (a * 1 + 3 * 2 ^ 5 * d) * 2 ^ 46 + d → (a * 1 + 3 * 2 ^ 5 * d) * 2 ^ 46 ≤ q * d + d → 3 * 2 ^ 51 ≤ q → Counted false (a * D / d) (q - 2 ^ 52)
   below h q f g k =
       let v = q - 3 * 2 ^ 51 in
       let e : v + 3 * 2 ^ 51 ≡ q = omega arith in
@@ -145,7 +124,7 @@ module _ (a d : ℕ) (dp : 0 < d) (l : a ≤ 26 * d) where
       let w = within v (omega (arith, e', f)) (omega (arith, e', g)) in
       close v (under h) (w .0) (w .1) (omega arith)
 
-  above : 2 * a < d → (q : ℕ) → q * d ≤ (3 * 2 ^ 5 * d - a * 1) * 2 ^ 46 + d → (3 * 2 ^ 5 * d - a * 1) * 2 ^ 46 ≤ q * d + d → q ≤ 3 * 2 ^ 51 → 2 ^ 52 ≤ q → Counted true (a * D / d) (q - 2 ^ 52)
+  above : a * 2 ^ 1 < d → (q : ℕ) → q * d ≤ (3 * 2 ^ 5 * d - a * 1) * 2 ^ 46 + d → (3 * 2 ^ 5 * d - a * 1) * 2 ^ 46 ≤ q * d + d → q ≤ 3 * 2 ^ 51 → 2 ^ 52 ≤ q → Counted true (a * D / d) (q - 2 ^ 52)
   above h q f g k k' =
       let v = 3 * 2 ^ 51 - q in
       let e : v + q ≡ 3 * 2 ^ 51 = omega arith in
@@ -219,8 +198,8 @@ counted s m e f l = subst (λ (x : ℕ). Counted s x (toBits binary64 (add binar
     bits s z = let b = z .bits in omega arith
 
     go : (s : Bool) → T (fits binary32 (fin s m e)) → It s m e l → Counted s (m * up e * D / down e) (toBits binary64 (add binary64 (fin s m e) ninetySix) - 0x4050_0000_0000_0000)
-    go false f z = subst (λ (n : ℕ). Counted false (m * up e * D / down e) n) (bits false z) (count-up m e l z (grid false m e f))
-    go true f z = subst (λ (n : ℕ). Counted true (m * up e * D / down e) n) (bits true z) (count-down m e l z (grid true m e f))
+    go false f z = subst (λ (n : ℕ). Counted false (m * up e * D / down e) n) (bits false z) (count-up m e l z (on-grid 24 1 false m e refl f))
+    go true f z = subst (λ (n : ℕ). Counted true (m * up e * D / down e) n) (bits true z) (count-down m e l z (on-grid 24 1 true m e refl f))
 
 -- ---- the two tests of the range
 is-yes : (b : Bool) → (T (not b) → ⊥) → b ≡ true

@@ -3,12 +3,11 @@
 use mathlib.Core.Path.{_≡_, refl, sym, ap, _∙_, subst}
 use mathlib.Core.Logic.{_⊎_, inl, inr}
 use mathlib.Core.Bool.{Bool, true, false, not, cond, _&&_}
-use Prim.Native.Nat.{ℕ, suc, _+_, _-_, _*_, _/_, _^_, _≤_, _<_, min}
-use native.Mathlib.Nat.{lt-of-lt-of-le, div-lt-iff-lt-mul, le-div-iff-mul-le, div-eq-of-lt, lt-of-not-le, not-le-of-lt, le-of-mul-le-mul-right}
+use Prim.Native.Nat.{ℕ, _+_, _-_, _*_, _/_, _^_, _≤_, _<_, min}
+use native.Mathlib.Nat.{div-lt-iff-lt-mul, le-div-iff-mul-le, div-eq-of-lt, le-of-mul-le-mul-right}
 use native.Mathlib.Omega.{arith}
-use lib.Dec.{T, leb, leb→le, nleb→lt, ltb→lt, nltb→le, ltb, lit≤, lit<}
-use lib.Pow.{pow-mono}
-use lib.IntN.{ℤ, pos, negsuc, negℤ, _+ℤ_, _-ℤ_, negℤ-negℤ, negℤ-+ℤ, +ℤ-comm, +ℤ-negℤ-cancel}
+use lib.Dec.{T, ltb→lt, nltb→le, ltb, lit≤, lit<}
+use lib.IntN.{ℤ, pos, negℤ, _+ℤ_, _-ℤ_, negℤ-negℤ, negℤ-+ℤ, +ℤ-comm, +ℤ-negℤ-cancel}
 use lib.Ieee.{Float, nan, inf, fin, binary32, binary64, up, down, round, add, lt, fits, toBits, isNan}
 use lib.Ieee.Fits.{down-pos}
 use lib.Ieee.Nearest.{div-same}
@@ -16,7 +15,7 @@ use borrow.Author.Tests.{lt-ltb, le-ltb}
 use Rattle.number.specs.Size.{plusZero}
 use Rattle.number.specs.Whole.{roundSize, roundAs}
 use Rattle.number.proofs.Range.{no-less}
-use Rattle.number.proofs.Powers.{few, shift}
+use Rattle.number.proofs.Powers.{on-grid}
 use Rattle.number.proofs.Shown.{Shown, shown}
 
 -- ---- the float a / d
@@ -25,30 +24,7 @@ rounds a d = (2 * a + d) / (2 * d)
 
 -- a / d is c units, or less than an eighth
 abbrev Units : ℕ → ℕ → Type 0
-Units a d = ((c : ℕ) × (a * 2 ^ 26 ≡ c * d)) ⊎ (8 * a < d)
-
-units-of : (s : Bool) (m : ℕ) (e : ℤ) → T (fits binary32 (fin s m e)) → Units (m * up e) (down e)
-units-of s m e f = go (leb (down e) (2 ^ 26)) (leb→le (down e) (2 ^ 26)) (nleb→lt (down e) (2 ^ 26))
-  where
-    deep : (e : ℤ) → T (fits binary32 (fin s m e)) → 2 ^ 26 < down e → 8 * (m * up e) < down e
-    deep (pos k) f h = absurd (no h)
-      where
-        no : 2 ^ 26 < 1 → ⊥
-        no h = omega arith
-    deep (negsuc k) f h = lt-of-lt-of-le (eight m (few binary32 s m (negsuc k) f)) (pow-mono (far (lt-of-not-le (λ (g : suc k ≤ 26). not-le-of-lt h (pow-mono g)))))
-      where
-        eight : (m : ℕ) → m < 2 ^ 24 → 8 * (m * 1) < 2 ^ 27
-        eight m h = omega arith
-
-        far : 26 < suc k → 27 ≤ suc k
-        far h = h
-
-    go : (b : Bool) → (T b → down e ≤ 2 ^ 26) → (T (not b) → 2 ^ 26 < down e) → Units (m * up e) (down e)
-    go true g h = let z = shift 26 m 0 e (g tt) in inl (m * 2 ^ z .0, tidy (m * up e) (m * 2 ^ z .0) (down e) (z .1))
-      where
-        tidy : (a c d : ℕ) → a * (1 * 2 ^ 0) * 2 ^ 26 ≡ c * (d * 1) → a * 2 ^ 26 ≡ c * d
-        tidy a c d h = omega arith
-    go false g h = inr (deep e f (h tt))
+Units a d = ((c : ℕ) × (a * 2 ^ 26 ≡ c * d)) ⊎ (a * 2 ^ 3 < d)
 
 -- ---- what the sum's bits round to
 pub record Found (y : Float) (half n : ℕ) : Type 0 where
@@ -68,11 +44,11 @@ module _ (a d : ℕ) (dp : 0 < d) (low : a < 2 ^ 24 * d) where
   units-round : (c : ℕ) → a * 2 ^ 26 ≡ c * d → rounds a d ≡ (c + 2 ^ 25) / 2 ^ 26
   units-round c e = div-same (2 * a + d) (2 * d) (c + 2 ^ 25) (2 ^ 26) (omega arith) (lit< tt) (omega arith)
 
-  none-round : 8 * a < d → rounds a d ≡ 0
+  none-round : a * 2 ^ 3 < d → rounds a d ≡ 0
   none-round h = div-eq-of-lt (omega arith)
 
   -- in either direction the sum is near 3 * 2 ^ 51 units where a / d is less than an eighth
-  close : (num : ℕ) → 8 * a < d → num ≤ a + 3 * 2 ^ 25 * d → 3 * 2 ^ 25 * d ≤ num + a → (num * 2 ^ 26 / (d * 1) ≤ 3 * 2 ^ 51 + 2 ^ 23) × (3 * 2 ^ 51 ≤ num * 2 ^ 26 / (d * 1) + 2 ^ 23)
+  close : (num : ℕ) → a * 2 ^ 3 < d → num ≤ a + 3 * 2 ^ 25 * d → 3 * 2 ^ 25 * d ≤ num + a → (num * 2 ^ 26 / (d * 1) ≤ 3 * 2 ^ 51 + 2 ^ 23) × (3 * 2 ^ 51 ≤ num * 2 ^ 26 / (d * 1) + 2 ^ 23)
   close num h f g = (
     below (div-lt-iff-lt-mul {k = d * 1} (omega arith) .1 (omega arith)),
     above (le-div-iff-mul-le {k = d * 1} (omega arith) .1 (omega arith)),
@@ -153,7 +129,7 @@ module _ (m : ℕ) (e : ℤ) (l : m * up e < 2 ^ 24 * down e) where
   unfolding add
   up-sum f =
       let dp = down-pos e in
-      up-at a d dp l (round binary64 false (a * 1 + 3 * 2 ^ 25 * d) (d * 1)) (units-of false m e f)
+      up-at a d dp l (round binary64 false (a * 1 + 3 * 2 ^ 25 * d) (d * 1)) (on-grid 26 3 false m e refl f)
       (shown 26 26 1048 (a * 1 + 3 * 2 ^ 25 * d) (d * 1) refl refl refl (lit≤ tt) (lit≤ tt) (omega arith) (omega arith) (omega arith))
 
   down-shown : Shown 1048 (2 ^ 26) (3 * 2 ^ 25 * d - a * 1) (d * 1) (add binary64 (fin true m e) big)
@@ -165,7 +141,7 @@ module _ (m : ℕ) (e : ℤ) (l : m * up e < 2 ^ 24 * down e) where
       (shown 26 26 1048 (3 * 2 ^ 25 * d - a * 1) (d * 1) refl refl refl (lit≤ tt) (lit≤ tt) (omega arith) (omega arith) (omega arith))
 
   down-sum : T (fits binary32 (fin true m e)) → (b : Bool) → (T (not b) → a ≡ 0) → Found (add binary64 (fin true m e) big) (cond b 0x1ff_ffff 0x200_0000) (2 ^ 25 - rounds a d)
-  down-sum f true z = down-at a d (down-pos e) l (add binary64 (fin true m e) big) (units-of true m e f) down-shown
+  down-sum f true z = down-at a d (down-pos e) l (add binary64 (fin true m e) big) (on-grid 26 3 true m e refl f) down-shown
   down-sum f false z = zero-at a d (down-pos e) l (add binary64 (fin true m e) big) (z tt) down-shown
 
   up-is : pos (2 ^ 25 + rounds a d) -ℤ pos (2 ^ 25) ≡ roundAs 31 (fin false m e)
