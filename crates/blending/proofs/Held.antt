@@ -3,19 +3,19 @@
 use mathlib.Core.Path.{_≡_, refl, sym, ap, subst, _∙_}
 use mathlib.Core.Bool.{Bool, true, false, not, cond, true≢false}
 use Prim.Native.Nat.{ℕ, suc, _+_, _-_, _*_, _/_, _%_, _^_, _≤_, _<_, min, compare}
-use native.Mathlib.Nat.{le-antisymm, lt-of-not-le, not-le-of-lt, lt-of-lt-of-le, le-div-iff-mul-le, div-lt-iff-lt-mul, mul-pos, mul-one, mul-right-comm, lt-of-mul-lt-mul-right, le-of-mul-le-mul-right, mul-le-mul-right, mul-lt-mul-of-pos-right, mul-div-mul-right, mul-div-cancel, add-mul-div-right, zero-div}
+use native.Mathlib.Nat.{lt-of-lt-of-le, le-div-iff-mul-le, div-lt-iff-lt-mul, mul-pos, mul-one, mul-right-comm, lt-of-mul-lt-mul-right, le-of-mul-le-mul-right, mul-le-mul-right, mul-lt-mul-of-pos-right, mul-div-mul-right, mul-div-cancel, add-mul-div-right, zero-div}
 use native.Mathlib.Omega.{arith}
 use lib.Dec.{T, ltb, ltb→lt, nltb→le, lit≤, lit<}
-use lib.Pow.{pow-pos, pow-mono, shl-lt}
+use lib.Pow.{pow-pos, shl-lt}
 use lib.IntN.{ℤ, pos}
 use lib.Ieee.{Float, nan, inf, fin, binary32, up, down, size, nearest, units, round, add, lt, ofInt, toUnsigned, toBits, isNan}
 use lib.Ieee.Fits.{down-pos, core, nearest-le, round-is}
-use lib.Ieee.Digits.{size-lt, size-le}
 use lib.Ieee.Exact.{HasValue, units-val, round-exact}
 use lib.Ieee.Nearest.{nearest-ge}
 use Rattle.number.specs.Size.{plusZero}
 use Rattle.number.specs.Whole.{asU8}
 use Rattle.number.proofs.Range.{yes, no}
+use Rattle.number.proofs.Shown.{size-is, is-number}
 use Rattle.blending.specs.Inner.{most, raised, lowered}
 use Rattle.blending.specs.Blend.{channel}
 
@@ -67,10 +67,6 @@ held-keeps (fin false m e) = go (ltb (0 * 1 * down e) (m * up e * 1)) (nltb→le
     go false g = (omega arith, nothing (m * up e) (down e) (g tt))
 
 -- ---- the sum with 2 ^ 23
-
-size-is : (p n : ℕ) → 2 ^ p ≤ n → n < 2 ^ suc p → size n ≡ suc p
-size-is p n lo hi =
-    le-antisymm (size-le n (suc p) hi) (lt-of-not-le (λ (g : size n ≤ p). not-le-of-lt (lt-of-lt-of-le (size-lt n) (pow-mono g)) lo))
 
 -- A whole number, at most one above the cut.
 pub record Near (q : ℕ) (y : Float) : Type 0 where
@@ -134,12 +130,6 @@ bits-is (fin false m e) n v lo hi =
 low-bits : (b r : ℕ) → b ≡ 149 * 8388608 + (8388608 + r) → r < 512 → b % 512 ≡ r
 low-bits b r e h = omega arith
 
-number : (y : Float) (a c : ℕ) → HasValue y false a c → T (not (isNan y))
-unfolding isNan
-number nan a c v = absurd v
-number (inf s) a c v = absurd v
-number (fin s m e) a c v = tt
-
 abbrev pub big : Float
 big = fin false 1 (pos 23)
 
@@ -172,7 +162,7 @@ shows (fin false m e) b =
     let v : HasValue y false ((8388608 + n .r) * 2 ^ 149) (2 ^ 149) =
     rw (n .is) (units-val binary32 false (8388608 + n .r) 149 (lt-of-lt-of-le (shl-lt 24 149 (omega arith)) (lit≤ tt))) in
     let r = low-bits (toBits binary32 y) (n .r) (bits-is y (8388608 + n .r) v (omega arith) (omega arith)) few in
-    record { low = omega (arith, n .low); high = omega (arith, n .high); number = number y _ _ v }
+    record { low = omega (arith, n .low); high = omega (arith, n .high); number = is-number y _ _ v }
 
 -- ---- the test against the float of that number
 

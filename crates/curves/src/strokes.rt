@@ -1,6 +1,8 @@
 // Strokes: how many steps one has, and the point at each.
 ghost use mathlib.Core.Path.{_≡_};
 ghost use Prim.Native.Nat.{_+_, _*_, _≤_, max};
+ghost use lib.IntN.{pos};
+ghost use lib.Ieee.{binary32, ofInt};
 ghost use Rattle.curves.specs.Strokes.{stepsOf, strokePoint};
 use crate::ovals::Oval;
 
@@ -31,6 +33,16 @@ pub fn steps(o: Oval, sweep: f32, width: u32, height: u32) -> u64
     n
 }
 
+// The f32 nearest to n, by the machine's own cast where that loses nothing.
+fn nearest_to(n: u32) -> f32
+    ensures { λ r. ⌜ r ≡ ofInt binary32 (pos n) ⌝ }
+{
+    if n <= 0x100_0000 {
+        return n as f32;
+    }
+    std::num::nearest_u32_to_f32(n)
+}
+
 pub struct Spot {
     pub x: i32,
     pub y: i32,
@@ -40,7 +52,7 @@ pub struct Spot {
 pub fn stroke_point(o: Oval, start: f32, sweep: f32, i: u32, steps: u32) -> Spot
     ensures { λ r. ⌜ r ≡ strokePoint o start sweep i steps ⌝ }
 {
-    let along = sweep * std::num::nearest_u32_to_f32(i) / std::num::nearest_u32_to_f32(steps);
+    let along = sweep * nearest_to(i) / nearest_to(steps);
     let t = angle::sine::sine_cosine(start + along);
     Spot {
         x: number::round_i32(o.cx + o.a * t.cosine),

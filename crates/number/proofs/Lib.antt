@@ -2,4 +2,5 @@ pub mod Range
 pub mod Signs
 pub mod Powers
 pub mod Rounds
+pub mod Shown
 pub mod Determined

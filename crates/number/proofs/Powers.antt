@@ -1,14 +1,15 @@
 -- A float times a power of two is exact, where it is not too large: its digits stay the same. And the whole part of a
 -- float of known value. For any format. Assumes nothing.
 use mathlib.Core.Path.{_≡_, refl, sym, ap, _∙_, subst}
-use mathlib.Core.Bool.{Bool, true, false, _&&_}
+use mathlib.Core.Logic.{_⊎_, inl, inr}
+use mathlib.Core.Bool.{Bool, true, false, not, _&&_}
 use Prim.Native.Nat.{ℕ, zero, suc, _+_, _-_, _*_, _/_, _%_, _^_, _≤_, _<_, min}
 use native.Mathlib.Nat.{le-trans, le-of-eq, lt-of-lt-of-le, lt-of-le-of-lt, lt-irrefl, lt-of-not-le, mul-one, one-mul, mul-assoc, mul-right-comm, mul-pos, mul-le-mul-right, mul-lt-mul-of-pos-right, lt-of-mul-lt-mul-right, div-lt-iff-lt-mul}
 use native.Mathlib.Omega.{arith}
-use lib.Dec.{T, leb, ltb, eqb, ltb→lt, lt→ltb, leb→le, eqb→eq, lit<}
+use lib.Dec.{T, leb, ltb, eqb, ltb→lt, lt→ltb, leb→le, nleb→lt, eqb→eq, lit<}
 use lib.Pow.{pow-add, pow-pos, pow-mono, pow-lt}
 use lib.IntN.{ℤ, pos, negsuc}
-use lib.Ieee.{Float, nan, inf, fin, Format, prec, emax, low, up, down, round, mul, lt, fits, toUnsigned, unlike}
+use lib.Ieee.{Float, nan, inf, fin, Format, binary32, prec, emax, low, up, down, round, mul, lt, fits, toUnsigned, unlike}
 use lib.Ieee.Fits.{up-pos, down-pos, and-l, and-r}
 use lib.Ieee.Exact.{HasValue, round-exact}
 use lib.Ieee.Nearest.{div-same}
@@ -72,6 +73,20 @@ shift l m j (negsuc k) h =
           ∙ sym (mul-assoc m (2 ^ i) (2 ^ suc k))
           ∙ ap (λ (x : ℕ). m * 2 ^ i * x) (sym (mul-one (2 ^ suc k))),
     )
+
+-- an f32 of a / d is a whole number of 2 ^ -l, or below 2 ^ -j
+pub on-grid : (l j : ℕ) (s : Bool) (m : ℕ) (e : ℤ) → 24 + j ≡ suc l → T (fits binary32 (fin s m e)) → ((c : ℕ) × (m * up e * 2 ^ l ≡ c * down e)) ⊎ (m * up e * 2 ^ j < down e)
+on-grid l j s m e i f = go (leb (down e) (2 ^ l)) (leb→le (down e) (2 ^ l)) (nleb→lt (down e) (2 ^ l))
+  where
+    deep : (e : ℤ) → T (fits binary32 (fin s m e)) → 2 ^ l < down e → m * up e * 2 ^ j < down e
+    deep (pos k) f h = absurd (lt-irrefl 1 (lt-of-le-of-lt (pow-pos l) h))
+    deep (negsuc k) f h =
+        lt-of-lt-of-le (mul-lt-mul-of-pos-right (subst (λ (x : ℕ). x < 2 ^ 24) (sym (mul-one m)) (few binary32 s m (negsuc k) f)) (pow-pos j))
+        (le-trans (le-of-eq (sym (pow-add 2 24 j) ∙ ap (λ (x : ℕ). 2 ^ x) i)) (pow-mono (lt-of-not-le (λ (g : suc k ≤ l). lt-irrefl (2 ^ l) (lt-of-lt-of-le h (pow-mono g))))))
+
+    go : (b : Bool) → (T b → down e ≤ 2 ^ l) → (T (not b) → 2 ^ l < down e) → ((c : ℕ) × (m * up e * 2 ^ l ≡ c * down e)) ⊎ (m * up e * 2 ^ j < down e)
+    go true g h = let z = shift l m 0 e (g tt) in inl (m * 2 ^ z .0, ap (λ (x : ℕ). x * 2 ^ l) (sym (mul-one (m * up e))) ∙ z .1 ∙ ap (λ (x : ℕ). m * 2 ^ z .0 * x) (mul-one (down e)))
+    go false g h = inr (deep e f (h tt))
 
 -- and stays below the largest ones
 room : (n d j l q b : ℕ) → 0 < d → n < 2 ^ 63 * d → 63 + j ≤ b → n * (1 * 2 ^ j) * 2 ^ l ≡ q * (d * 1) → q < 2 ^ (l + b)

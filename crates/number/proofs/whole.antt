@@ -2,3 +2,4 @@
 pub mod Halves
 pub mod Signed
 pub mod Ceil
+pub mod Small

@@ -1,6 +1,9 @@
 // Whole numbers out of floats: the Rust's `round` and `ceil`, and its casts, which saturate.
+ghost use mathlib.Core.Bool.{cond};
 ghost use mathlib.Core.Path.{_≡_};
 ghost use Prim.Native.Nat.{_≤_};
+ghost use lib.Ieee.{lt};
+ghost use Rattle.number.specs.Size.{plusZero};
 ghost use Rattle.number.specs.Whole.{asU8, roundSize, roundAs, ceilSize};
 
 // x as u8
@@ -71,9 +74,25 @@ pub fn round_i32_f64(x: f64) -> i32
     n as i32
 }
 
-// x.round() as i32: an f64 holds each f32.
+// What a half is raised by, in units of 2^-26, before the whole part is taken: a half goes away from zero.
+fn half_up(x: f32) -> u64
+    ensures { λ r. ⌜ r ≡ cond (lt x plusZero) 0x1ff_ffff 0x200_0000 ⌝ }
+{
+    if x < 0.0 {
+        return 0x1ff_ffff;
+    }
+    0x200_0000
+}
+
+// x.round() as i32. The sum's last digit stands at 2^-26, so its bits count x in these units, from -2^25 on.
 pub fn round_i32(x: f32) -> i32
     ensures { λ r. ⌜ r ≡ roundAs 31 x ⌝ }
 {
+    if x > -16777216.0 {
+        if x < 16777216.0 {
+            let n = f64::to_bits(x as f64 + 100663296.0) - 0x4190_0000_0000_0000;
+            return ((n + half_up(x)) / 0x400_0000) as i32 - 0x200_0000;
+        }
+    }
     round_i32_f64(std::num::f32_to_f64_with_nan(x))
 }

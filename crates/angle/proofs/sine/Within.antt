@@ -3,145 +3,98 @@
 use mathlib.Core.Path.{_≡_, refl, sym, ap, _∙_, subst}
 use mathlib.Core.Logic.{_⊎_, inl, inr}
 use mathlib.Core.Bool.{Bool, true, false, not, cond}
-use Prim.Native.Nat.{ℕ, zero, suc, _+_, _-_, _*_, _/_, _%_, _^_, _≤_, _<_}
-use native.Mathlib.Nat.{le-trans, lt-of-le-of-lt, lt-of-lt-of-le, div-one, mul-assoc, mod-lt, mul-le-mul-left, mul-le-mul-right, mul-lt-mul-of-pos-right, mul-div-cancel, div-lt-iff-lt-mul}
+use Prim.Native.Nat.{ℕ, zero, suc, _+_, _-_, _*_, _/_, _%_, _^_, _≤_}
 use native.Mathlib.Omega.{arith}
-use lib.Dec.{T, leb, leb→le, nleb→lt, lit≤, lit<}
-use lib.Pow.{pow-add, pow-pos, pow-mono}
-use lib.IntN.{ℤ, pos, negsuc, negℤ, natAbs, _-ℤ_, _*ℤ_}
-use lib.Ieee.{Float, nan, inf, fin, binary32, up, down, neg, fits, round, size}
-use lib.Ieee.Scale.{grid}
-use borrow.Author.Tests.{le-leb}
+use lib.Dec.{T}
+use lib.IntN.{ℤ, pos, negsuc, negℤ, natAbs, _-ℤ_, _*ℤ_, negℤ-negℤ, negℤ-+ℤ}
+use lib.Ieee.{Float, nan, inf, fin, binary32, up, down, neg, fits, round, mul, sub, add, ofBits}
+use lib.Ieee.Scale.{finite}
 use Rattle.number.specs.Size.{signOf}
-use Rattle.number.proofs.Powers.{few}
-use Rattle.angle.specs.Meaning.{D, whole, signed, parts, mod4, placed, sine, cosine, UpTo26, Close}
-use Rattle.angle.specs.Sine.{unitsOf, kOf, shortOf, restOf, squareOf, sineUnits, cosineUnits, asF32, sineOf, cosineOf}
+use Rattle.angle.specs.Meaning.{D, whole, signed, parts, placed, sine, cosine, UpTo26, Close}
+use Rattle.angle.specs.Sine.{unitsOf, kOf, shortOf, restOf, sineFrom, asF32, sineAt, cosineAt, sineOf, cosineOf}
 use Rattle.angle.proofs.Signs as Signs
-use Rattle.angle.proofs.Signs.{like, opposite, product, apart, mod4-minus}
+use Rattle.angle.proofs.Signs.{opposite, product, apart}
 use Rattle.angle.proofs.Terms.{sinAt, cosAt}
 use Rattle.angle.proofs.Placing.{small, sine-is, cosine-is}
-use Rattle.angle.proofs.sine.Rest.{step, Found, found}
-use Rattle.angle.proofs.sine.Products.{Near}
-use Rattle.angle.proofs.sine.Series.{sin-near, cos-near, sin-le, cos-le}
-use Rattle.angle.proofs.Rounded.{Is, half, near, rounded, neg-round}
+use Rattle.angle.proofs.sine.Units.{Counted, counted, size-is, inside}
+use Rattle.angle.proofs.sine.Rest.{Found, found}
+use Rattle.angle.proofs.sine.Values.{tiny, D-tiny}
+use Rattle.angle.proofs.sine.Series.{Meant, sin-meant, cos-meant}
+use Rattle.angle.proofs.Rounded.{is}
 
--- ---- an answer of n / 2 ^ 48, rounded
--- a 2 ^ -48th, in D-ths
-unfoldable k : ℕ
-k = 2 ^ 101
-
-D-is : D ≡ 0x1_0000_0000_0000 * k
-unfolding D k
-D-is = refl
-
-k-pos : 0 < k
-unfolding k
-k-pos = lit< tt
-
-abbrev g : ℕ → ℕ
-g n = grid binary32 n (2 ^ 48)
-
-half-is : half ≡ 0x400_0000 * k
-unfolding half k
-half-is = refl
-
-module _ (n : ℕ) (h : n ≤ 0x1_0000_0000_0000) where
-  in-parts : n * 2 ^ 149 ≡ n * k * 2 ^ 48
-  unfolding k
-  in-parts = sym (mul-assoc n k (2 ^ 48))
-
-  below : n * k < 2 ^ 151
-  unfolding k
-  below = lt-of-le-of-lt (mul-le-mul-right k h) (lit< tt)
-
-  it : (s : Bool) → Is (round binary32 s n (2 ^ 48)) s (g n)
-  it s = rounded n (2 ^ 48) (n * k) (lit< tt) in-parts below s
-
-  rounds : (g n ≤ n * k + 0x200_0000 * k) × (n * k ≤ g n + 0x200_0000 * k)
-  rounds = let w = near n (2 ^ 48) (n * k) (lit< tt) in-parts below in (go (g n) (n * k) half half-is (w .0), go (n * k) (g n) half half-is (w .1))
-    where
-      go : (a b c : ℕ) → c ≡ 0x400_0000 * k → a * 2 ≤ b * 2 + c → a ≤ b + 0x200_0000 * k
-      go a b c e w = omega arith
-
--- an answer that is near F / 2 ^ 48 is close to F
-pub close : (s : Bool) (n F : ℕ) → n ≤ 0x1_0000_0000_0000 → Near (n * whole) (F * 2 ^ 48) (0x9e_0000 * whole) → Close (asF32 s n) (signed s F)
-unfolding asF32
-close s n F h e =
-    let i = it n h s in
-    let r = rounds n h in
+-- ---- an answer that is near F is close to it
+close : (y : Float) (F : ℕ) → Meant y F → Close y (pos F)
+close y F m =
+    let i = is y false (m .s) (m .is) in
     record {
       number = i .number;
-      near = subst (λ (z : ℤ). natAbs z * 2 ^ 20 ≤ D * whole) (sym (same i)) (apart s (g n * whole) (F * D) (2 ^ 20) (D * whole) (one whole D D-is (r .0) (e .hi)) (two whole D D-is (r .1) (e .lo)));
+      near = subst (λ (z : ℤ). natAbs (z *ℤ pos whole -ℤ pos F *ℤ pos D) * 2 ^ 20 ≤ D * whole) (sym (i .parts-are)) (apart false (m .s * whole) (F * D) (2 ^ 20) (D * whole) (one (m .s * whole) (F * D) (m .near .hi)) (one (F * D) (m .s * whole) (m .near .lo)));
     }
   where
-    same : Is (round binary32 s n (2 ^ 48)) s (g n) → parts (round binary32 s n (2 ^ 48)) *ℤ pos whole -ℤ signed s F *ℤ pos D ≡ signed s (g n * whole) -ℤ signed s (F * D)
-    same i =
-        ap (λ (z : ℤ). z *ℤ pos whole -ℤ signed s F *ℤ pos D) (i .parts-are)
-        ∙ ap (λ (z : ℤ). z -ℤ signed s F *ℤ pos D) (product s false (g n) whole ∙ ap (λ (b : Bool). signed b (g n * whole)) (like s))
-        ∙ ap (λ (z : ℤ). signed s (g n * whole) -ℤ z) (product s false F D ∙ ap (λ (b : Bool). signed b (F * D)) (like s))
+    one : (a b : ℕ) → a ≤ b + 29 * tiny * whole → a * 2 ^ 20 ≤ b * 2 ^ 20 + D * whole
+    one a b h = omega (arith, ap (λ (z : ℕ). z * whole) D-tiny)
 
-    one : (W d : ℕ) → d ≡ 0x1_0000_0000_0000 * k → g n ≤ n * k + 0x200_0000 * k → n * W ≤ F * 2 ^ 48 + 0x9e_0000 * W → g n * W * 2 ^ 20 ≤ F * d * 2 ^ 20 + d * W
-    one W d e a b = omega (arith, ap (λ (z : ℕ). F * z) e, ap (λ (z : ℕ). z * W) e, mul-le-mul-right W a, mul-le-mul-left k b)
+-- ---- by quarters
+times-minus : (a : ℤ) (w : ℕ) → negℤ a *ℤ pos w ≡ negℤ (a *ℤ pos w)
+times-minus (pos n) w = product true false n w
+times-minus (negsuc n) w = sym (negℤ-negℤ (pos (suc n * w))) ∙ ap negℤ (sym (product true false (suc n) w))
 
-    two : (W d : ℕ) → d ≡ 0x1_0000_0000_0000 * k → n * k ≤ g n + 0x200_0000 * k → F * 2 ^ 48 ≤ n * W + 0x9e_0000 * W → F * d * 2 ^ 20 ≤ g n * W * 2 ^ 20 + d * W
-    two W d e a b = omega (arith, ap (λ (z : ℕ). F * z) e, ap (λ (z : ℕ). z * W) e, mul-le-mul-right W a, mul-le-mul-left k b)
+size-minus : (a : ℤ) → natAbs (negℤ a) ≡ natAbs a
+size-minus (pos zero) = refl
+size-minus (pos (suc n)) = refl
+size-minus (negsuc n) = refl
 
--- ---- the other sign
-pub neg-as-f32 : (s : Bool) (n : ℕ) → neg (asF32 s n) ≡ asF32 (not s) n
-unfolding asF32
-neg-as-f32 s n = neg-round s n (2 ^ 48)
+parts-minus : (y : Float) → parts (neg y) ≡ negℤ (parts y)
+unfolding parts neg
+parts-minus nan = refl
+parts-minus (inf s) = refl
+parts-minus (fin s m e) = sym (opposite s (m * up e * D / down e))
 
--- ---- by quarters: N and M are the two answers, S and C what they stand for
-module _ (N M S C : ℕ) (cs : (s : Bool) → Close (asF32 s N) (signed s S)) (cc : (s : Bool) → Close (asF32 s M) (signed s C)) where
-  flipped : (s : Bool) → Close (asF32 (not s) N) (negℤ (signed s S))
-  flipped s = subst (λ (z : ℤ). Close (asF32 (not s) N) z) (sym (opposite s S)) (cs (not s))
+still : (y : Float) → T (finite y) → T (finite (neg y))
+unfolding neg
+still nan h = h
+still (inf s) h = h
+still (fin s m e) h = tt
 
-  back : (s : Bool) (n : ℕ) (f : ℤ) → Close (asF32 (not s) n) f → Close (neg (asF32 s n)) f
-  back s n f h = subst (λ (z : Float). Close z f) (sym (neg-as-f32 s n)) h
+turned : {y : Float} {f : ℤ} → Close y f → Close (neg y) (negℤ f)
+turned {y} {f} c = record {
+  number = still y (c .number);
+  near = subst (λ (z : ℕ). z * 2 ^ 20 ≤ D * whole) (sym same) (c .near);
+}
+  where
+    same : natAbs (parts (neg y) *ℤ pos whole -ℤ negℤ f *ℤ pos D) ≡ natAbs (parts y *ℤ pos whole -ℤ f *ℤ pos D)
+    same =
+        ap (λ (z : ℤ). natAbs (z *ℤ pos whole -ℤ negℤ f *ℤ pos D)) (parts-minus y)
+        ∙ ap (λ (z : ℤ). natAbs (z -ℤ negℤ f *ℤ pos D)) (times-minus (parts y) whole)
+        ∙ ap (λ (z : ℤ). natAbs (negℤ (parts y *ℤ pos whole) -ℤ z)) (times-minus f D)
+        ∙ ap natAbs (sym (negℤ-+ℤ (parts y *ℤ pos whole) (negℤ (f *ℤ pos D))))
+        ∙ size-minus (parts y *ℤ pos whole -ℤ f *ℤ pos D)
 
-  again : (s : Bool) (n : ℕ) (f : ℤ) → Close (asF32 s n) f → Close (neg (neg (asF32 s n))) f
-  again s n f h = subst (λ (z : Float). Close z f) (sym (ap neg (neg-as-f32 s n) ∙ neg-as-f32 (not s) n ∙ ap (λ (b : Bool). asF32 b n) (twice s))) h
-    where
-      twice : (s : Bool) → not (not s) ≡ s
-      twice true = refl
-      twice false = refl
+by-quarter : (r : ℕ) {S C : Float} {σ γ : ℤ} → Close S σ → Close C γ → Close (placed neg r S C) (placed negℤ r σ γ)
+unfolding placed
+by-quarter zero a b = a
+by-quarter (suc zero) a b = b
+by-quarter (suc (suc zero)) a b = turned a
+by-quarter (suc (suc (suc r))) a b = turned b
 
-  too-many : {X : Type 0} (r : ℕ) → suc (suc (suc (suc r))) < 4 → X
-  too-many r h = absurd (no r h)
-    where
-      no : (r : ℕ) → suc (suc (suc (suc r))) < 4 → ⊥
-      no r h = omega arith
+-- a zero of either sign is as close
+zero-is : (g : Bool) → sineAt g 0 ≡ fin g 0 (pos 0)
+unfolding sineAt asF32 sineFrom round mul sub add neg ofBits
+zero-is true = refl
+zero-is false = refl
 
-  forward : (r : ℕ) (b : Bool) → Close (placed neg r (asF32 b N) (asF32 false M)) (placed negℤ r (signed (cond b true false) S) (pos C))
-  unfolding placed
-  forward zero true = cs true
-  forward zero false = cs false
-  forward (suc zero) b = cc false
-  forward (suc (suc zero)) true = back true N (negℤ (signed true S)) (flipped true)
-  forward (suc (suc zero)) false = back false N (negℤ (signed false S)) (flipped false)
-  forward (suc (suc (suc r))) b = back false M (negℤ (pos C)) (cc true)
+zero-parts : (g : Bool) → parts (fin g 0 (pos 0)) ≡ pos 0
+unfolding parts D
+zero-parts true = refl
+zero-parts false = refl
 
-  sine-back : (r : ℕ) (b : Bool) → r < 4 → Close (neg (placed neg r (asF32 b N) (asF32 false M))) (placed negℤ ((4 - r) % 4) (signed (cond b false true) S) (pos C))
-  unfolding placed
-  sine-back zero true h = back true N (signed false S) (cs false)
-  sine-back zero false h = back false N (signed true S) (cs true)
-  sine-back (suc zero) b h = back false M (negℤ (pos C)) (cc true)
-  sine-back (suc (suc zero)) true h = again true N (negℤ (signed false S)) (flipped false)
-  sine-back (suc (suc zero)) false h = again false N (negℤ (signed true S)) (flipped true)
-  sine-back (suc (suc (suc zero))) b h = again false M (pos C) (cc false)
-  sine-back (suc (suc (suc (suc r)))) b h = too-many r h
+zero-close : (g h : Bool) (f : ℤ) → Close (sineAt g 0) f → Close (sineAt h 0) f
+zero-close g h f c = subst (λ (y : Float). Close y f) (sym (zero-is h)) (go (subst (λ (y : Float). Close y f) (zero-is g) c))
+  where
+    go : Close (fin g 0 (pos 0)) f → Close (fin h 0 (pos 0)) f
+    go c = record { number = tt; near = subst (λ (z : ℤ). natAbs (z *ℤ pos whole -ℤ f *ℤ pos D) * 2 ^ 20 ≤ D * whole) (zero-parts g ∙ sym (zero-parts h)) (c .near) }
 
-  cosine-back : (r : ℕ) (b : Bool) → r < 4 → Close (placed neg ((r + 1) % 4) (asF32 b N) (asF32 false M)) (placed negℤ (((4 - r) % 4 + 1) % 4) (signed (cond b false true) S) (pos C))
-  unfolding placed
-  cosine-back zero b h = cc false
-  cosine-back (suc zero) true h = back true N (signed false S) (cs false)
-  cosine-back (suc zero) false h = back false N (signed true S) (cs true)
-  cosine-back (suc (suc zero)) b h = back false M (negℤ (pos C)) (cc true)
-  cosine-back (suc (suc (suc zero))) true h = flipped false
-  cosine-back (suc (suc (suc zero))) false h = flipped true
-  cosine-back (suc (suc (suc (suc r)))) b h = too-many r h
-
--- ---- the angle: its sign and its digits
+-- ---- the angle: its sign and its count
 sign-is : (t : Float) → parts t ≡ signed (signOf t) (natAbs (parts t))
 unfolding signOf parts
 sign-is nan = refl
@@ -149,42 +102,13 @@ sign-is (inf true) = refl
 sign-is (inf false) = refl
 sign-is (fin s m e) = ap (signed s) (sym (Signs.size s (m * up e * D / down e)))
 
-abbrev Digits : ℕ → Type 0
-Digits x = ((n : ℕ) × (x ≡ n * step)) ⊎ (x < 8388608 * step)
-
-digits-at : (m : ℕ) (e : ℤ) → m < 2 ^ 24 → Digits (m * up e * D / down e)
-unfolding D step
-digits-at m (pos j) h = inl (m * 2 ^ j * 2 ^ 59, div-one (m * 2 ^ j * 2 ^ 149) ∙ sym (mul-assoc (m * 2 ^ j) (2 ^ 59) (2 ^ 90)))
-digits-at m (negsuc j) h = go (leb (suc j) 59) (leb→le (suc j) 59) (nleb→lt (suc j) 59)
-  where
-    go : (b : Bool) → (T b → suc j ≤ 59) → (T (not b) → 59 < suc j) → Digits (m * 1 * 2 ^ 149 / 2 ^ suc j)
-    go true f g =
-        let l : suc j ≤ 59 = f tt in
-        let e : 59 - suc j + suc j ≡ 59 = omega arith in
-        inl (
-          m * 1 * 2 ^ (59 - suc j),
-          ap (λ (z : ℕ). z / 2 ^ suc j)
-              (sym (mul-assoc (m * 1) (2 ^ 59) (2 ^ 90)) ∙ ap (λ (z : ℕ). m * 1 * z * 2 ^ 90) (ap (λ (i : ℕ). 2 ^ i) (sym e) ∙ pow-add 2 (59 - suc j) (suc j)) ∙ turn (m * 1) (2 ^ (59 - suc j)) (2 ^ suc j) (2 ^ 90))
-              ∙ mul-div-cancel (m * 1 * 2 ^ (59 - suc j) * 2 ^ 90) (pow-pos (suc j)),
-        )
-      where
-        turn : (a b c d : ℕ) → a * (b * c) * d ≡ a * b * d * c
-        turn a b c d = omega arith
-    go false f g =
-        inr (div-lt-iff-lt-mul (pow-pos (suc j)) .1
-        (lt-of-lt-of-le (mul-lt-mul-of-pos-right (one h) (pow-pos 149)) (le-trans (lit≤ tt) (mul-le-mul-left (8388608 * 2 ^ 90) (sixty (g tt))))))
-      where
-        one : m < 2 ^ 24 → m * 1 < 2 ^ 24
-        one h = omega arith
-
-        sixty : 59 < suc j → 2 ^ 60 ≤ 2 ^ suc j
-        sixty g = pow-mono g
-
-digits : (t : Float) → T (fits binary32 t) → Digits (natAbs (parts t))
-unfolding parts step
-digits nan f = inr (lit< tt)
-digits (inf s) f = inr (lit< tt)
-digits (fin s m e) f = subst Digits (sym (Signs.size s (m * up e * D / down e))) (digits-at m e (few binary32 s m e f))
+count : (t : Float) → T (fits binary32 t) → UpTo26 t → Counted (signOf t) (natAbs (parts t)) (unitsOf t)
+unfolding signOf
+count nan f u = absurd (u .number)
+count (inf s) f u = absurd (u .number)
+count (fin s m e) f u =
+    let i = inside s m e f (subst (λ (x : ℕ). x ≤ 26 * D) (size-is s m e) (u .size)) in
+    subst (λ (n : ℕ). Counted s (natAbs (parts (fin s m e))) n) (sym (i .1)) (counted s m e f (i .0))
 
 -- ---- the two theorems
 module _ (t : Float) (f : T (fits binary32 t)) (u : UpTo26 t) where
@@ -194,73 +118,59 @@ module _ (t : Float) (f : T (fits binary32 t)) (u : UpTo26 t) where
   n : ℕ
   n = unitsOf t
 
-  n-is : x / step ≡ n
-  unfolding x n unitsOf step
-  n-is = sym (ap (λ (b : Bool). cond b (natAbs (parts t) / 2 ^ 90) 0) (le-leb (natAbs (parts t)) (26 * D) (u .size)))
-
-  at : (y : ℕ) × Found x n y
-  unfolding x
-  at = let a = found x (digits t f) in (a .0, subst (λ (z : ℕ). Found x z (a .0)) n-is (a .1))
-
   s : Bool
   s = signOf t
 
-  module _ (y : ℕ) (a : Found x n y) where
-    yD : y ≤ D
-    yD = small s (shortOf n) x (kOf n) y (a .half) (a .beside)
+  at : Found s x n
+  unfolding x n s
+  at = found (signOf t) (natAbs (parts t)) (unitsOf t) (count t f u)
 
-    N : ℕ
-    N = sineUnits (restOf n)
+  y : ℕ
+  y = at .y
 
-    M : ℕ
-    M = cosineUnits (restOf n)
+  yD : y ≤ D
+  unfolding y
+  yD = small s (at .b) x (at .j) (at .y) (at .half) (at .beside)
 
-    cs : (g : Bool) → Close (asF32 g N) (signed g (sinAt y))
-    unfolding N
-    cs g = close g N (sinAt y) (sin-le (restOf n) (squareOf (restOf n)) (a .part)) (sin-near (restOf n) y (a .lo) (a .hi) (a .part) yD)
+  r : ℕ
+  r = restOf n
 
-    cc : (g : Bool) → Close (asF32 g M) (signed g (cosAt y))
-    unfolding M
-    cc g = close g M (cosAt y) (cos-le (squareOf (restOf n))) (cos-near (restOf n) y (a .lo) (a .hi) (a .part) yD)
+  cs : (g : Bool) → Close (sineAt g r) (signed g (sinAt y))
+  unfolding sineAt r y
+  cs false = close _ (sinAt (at .y)) (sin-meant (restOf n) (at .y) (at .lo) (at .hi) (at .part) (unfold y in yD))
+  cs true = turned (close _ (sinAt (at .y)) (sin-meant (restOf n) (at .y) (at .lo) (at .hi) (at .part) (unfold y in yD)))
 
-    q : ℕ
-    q = kOf n
+  cc : Close (cosineAt r) (pos (cosAt y))
+  unfolding cosineAt r y
+  cc = close _ (cosAt (at .y)) (cos-meant (restOf n) (at .y) (at .lo) (at .hi) (at .part) (unfold y in yD))
 
-    b : Bool
-    b = shortOf n
+  abbrev side : Bool
+  side = cond (at .b) (not s) s
 
-    y-sine : (s : Bool) → Close (cond s (neg (placed neg (q % 4) (asF32 b N) (asF32 false M))) (placed neg (q % 4) (asF32 b N) (asF32 false M))) (placed negℤ (mod4 (signed s q)) (signed (cond b (not s) s) (sinAt y)) (pos (cosAt y)))
-    unfolding mod4
-    y-sine false = forward N M (sinAt y) (cosAt y) cs cc (q % 4) b
-    y-sine true =
-        subst (λ (k : ℕ). Close (neg (placed neg (q % 4) (asF32 b N) (asF32 false M))) (placed negℤ k (signed (cond b false true) (sinAt y)) (pos (cosAt y)))) (sym (mod4-minus q))
-        (sine-back N M (sinAt y) (cosAt y) cs cc (q % 4) b (mod-lt q (lit< tt)))
-
-    wrap : (q : ℕ) → (q % 4 + 1) % 4 ≡ (q + 1) % 4
-    wrap q = omega arith
-
-    y-cosine : (s : Bool) → Close (placed neg ((q % 4 + 1) % 4) (asF32 b N) (asF32 false M)) (placed negℤ ((mod4 (signed s q) + 1) % 4) (signed (cond b (not s) s) (sinAt y)) (pos (cosAt y)))
-    unfolding mod4
-    y-cosine false = forward N M (sinAt y) (cosAt y) cs cc ((q % 4 + 1) % 4) b
-    y-cosine true =
-        subst (λ (k : ℕ). Close (placed neg ((q % 4 + 1) % 4) (asF32 b N) (asF32 false M)) (placed negℤ ((k + 1) % 4) (signed (cond b false true) (sinAt y)) (pos (cosAt y)))) (sym (mod4-minus q))
-        (cosine-back N M (sinAt y) (cosAt y) cs cc (q % 4) b (mod-lt q (lit< tt)))
-
-    sine-here : Close (sineOf t) (sine (parts t))
-    unfolding sineOf n s x q b N M
-    sine-here =
-        subst (λ (z : ℤ). Close (sineOf t) (sine z)) (sym (sign-is t))
-        (subst (λ (z : ℤ). Close (sineOf t) z) (sym (sine-is s b x q y (a .half) (a .beside))) (y-sine s))
-
-    cosine-here : Close (cosineOf t) (cosine (parts t))
-    unfolding cosineOf n s x q b N M
-    cosine-here =
-        subst (λ (z : ℤ). Close (cosineOf t) (cosine z)) (sym (sign-is t))
-        (subst (λ (z : ℤ). Close (cosineOf t) z) (sym (cosine-is s b x q y (a .half) (a .beside)))
-        (subst (λ (k : ℕ). Close (placed neg k (asF32 b N) (asF32 false M)) (placed negℤ ((mod4 (signed s q) + 1) % 4) (signed (cond b (not s) s) (sinAt y)) (pos (cosAt y)))) (wrap q) (y-cosine s)))
+  sided : Close (sineAt (shortOf n) r) (signed side (sinAt y))
+  unfolding r
+  sided = go (at .side)
+    where
+      go : (shortOf n ≡ side) ⊎ (restOf n ≡ 0) → Close (sineAt (shortOf n) (restOf n)) (signed side (sinAt y))
+      go (inl e) = subst (λ (g : Bool). Close (sineAt g (restOf n)) (signed side (sinAt y))) (sym e) (unfold r in cs side)
+      go (inr e) =
+          subst (λ (z : ℕ). Close (sineAt (shortOf n) z) (signed side (sinAt y))) (sym e)
+          (zero-close side (shortOf n) (signed side (sinAt y)) (subst (λ (z : ℕ). Close (sineAt side z) (signed side (sinAt y))) e (unfold r in cs side)))
 
   pub sine-close : Close (sineOf t) (sine (parts t))
-  sine-close = sine-here (at .0) (at .1)
+  unfolding sineOf n r s x y
+  sine-close =
+      subst (λ (z : ℤ). Close (sineOf t) (sine z)) (sym (sign-is t))
+      (subst (λ (z : ℤ). Close (sineOf t) z) (sym (sine-is s (at .b) x (at .j) (at .y) (at .half) (at .beside)))
+      (subst (λ (k : ℕ). Close (sineOf t) (placed negℤ k (signed side (sinAt y)) (pos (cosAt y)))) (sym (at .quarter)) (by-quarter (kOf n % 4) sided cc)))
+
+  wrap : (k : ℕ) → (k % 4 + 1) % 4 ≡ (k + 1) % 4
+  wrap k = omega arith
 
   pub cosine-close : Close (cosineOf t) (cosine (parts t))
-  cosine-close = cosine-here (at .0) (at .1)
+  unfolding cosineOf n r s x y
+  cosine-close =
+      subst (λ (z : ℤ). Close (cosineOf t) (cosine z)) (sym (sign-is t))
+      (subst (λ (z : ℤ). Close (cosineOf t) z) (sym (cosine-is s (at .b) x (at .j) (at .y) (at .half) (at .beside)))
+      (subst (λ (k : ℕ). Close (cosineOf t) (placed negℤ ((k + 1) % 4) (signed side (sinAt y)) (pos (cosAt y)))) (sym (at .quarter))
+      (subst (λ (k : ℕ). Close (cosineOf t) (placed negℤ k (signed side (sinAt y)) (pos (cosAt y)))) (sym (wrap (kOf n))) (by-quarter ((kOf n + 1) % 4) sided cc))))

@@ -1,31 +1,48 @@
--- `placed_at` meets its contract: the code tests for each quarter. Assumes nothing.
-use mathlib.Core.Path.{_≡_, sym, ap}
-use Prim.Native.Nat.{ℕ, _%_}
+-- `placed_at` meets its contract: the parity says which of the two, and the half which sign. Assumes nothing.
+use borrow.Author.Needs.{needs}
+use mathlib.Core.Path.{_≡_, refl, ap, _∙_}
+use mathlib.Core.Bool.{cond}
+use Prim.Native.Nat.{ℕ, zero, suc, _%_, _<_}
 use native.Mathlib.Omega.{arith}
-use lib.Ieee.{neg}
+use lib.Dec.{eqb}
+use lib.Ieee.{Float, neg}
 use Rattle.angle.specs.Meaning.{placed}
 use Rattle.angle.proofs.sine.placed_at.Statement.{statement}
 use Rattle.angle.proofs.sine.placed_at.Tie as tie
 
--- the rule at the quarter that the code tested for
-at : (c : tie.Start) (q : ℕ) → q ≡ c .args .k % 4 → placed neg q (c .args .s) (c .args .c) ≡ placed neg (c .args .k % 4) (c .args .s) (c .args .c)
-at c q e = ap (λ (k : ℕ). placed neg k (c .args .s) (c .args .c)) e
+even-or-odd-requires : tie.Need-even-or-odd-requires
+even-or-odd-requires c κs = search needs
+
+module _ (s c : Float) where
+  first : (m : ℕ) → m < 2 → cond (eqb m 0) s c ≡ placed neg m s c
+  unfolding placed
+  first zero h = refl
+  first (suc zero) h = refl
+  first (suc (suc m)) h = absurd (no m h)
+    where
+      no : (m : ℕ) → suc (suc m) < 2 → ⊥
+      no m h = omega arith
+
+  second : (m : ℕ) → m < 2 → neg (cond (eqb m 0) s c) ≡ placed neg (suc (suc m)) s c
+  unfolding placed
+  second zero h = refl
+  second (suc zero) h = refl
+  second (suc (suc m)) h = absurd (no m h)
+    where
+      no : (m : ℕ) → suc (suc m) < 2 → ⊥
+      no m h = omega arith
 
 returns : tie.Need-returns
-unfolding placed
-returns c = at (c .before) 0 (sym (c .if1 .taken))
+returns c =
+    let a = c .before .before .args in
+    let e : a .k % 2 ≡ a .k % 4 = omega arith in
+    c .before .even-or-odd .ensures ∙ ap (λ (m : ℕ). cond (eqb m 0) (a .s) (a .c)) e ∙ first (a .s) (a .c) (a .k % 4) (c .if1 .taken)
 
 returns-2 : tie.Need-returns-2
-unfolding placed
-returns-2 c = at (c .before .before) 1 (sym (c .if2 .taken))
-
-returns-3 : tie.Need-returns-3
-unfolding placed
-returns-3 c = at (c .before .before .before) 2 (sym (c .if3 .taken))
-
-returns-4 : tie.Need-returns-4
-unfolding placed
-returns-4 c = at (c .before .before .before) 3 (omega arith)
+returns-2 c =
+    let a = c .before .before .args in
+    let e : suc (suc (a .k % 2)) ≡ a .k % 4 = omega arith in
+    ap neg (c .before .even-or-odd .ensures) ∙ second (a .s) (a .c) (a .k % 2) (omega arith) ∙ ap (λ (m : ℕ). placed neg m (a .s) (a .c)) e
 
 pub placed-at-spec : {M : Type 1} → statement M
-placed-at-spec = tie.close (tie.spec returns returns-2 returns-3 returns-4)
+placed-at-spec = tie.close (tie.spec even-or-odd-requires returns returns-2)

@@ -27,11 +27,11 @@ made : (o : Oval) (start sweep : Float) (i steps : ℕ) (fi fs : Float) (t : Sin
 unfolding strokePoint spotAt strokeAngle sineCosineOf
 made o start sweep i steps fi fs t x y e f g h k u v = rw (toZ-ofZ w32 x u, toZ-ofZ w32 y v, h, k, g, e, f)
 
-nearest-u32-to-f32-requires : tie.Need-nearest-u32-to-f32-requires
-nearest-u32-to-f32-requires c κs = search needs
+nearest-to-requires : tie.Need-nearest-to-requires
+nearest-to-requires c κs = search needs
 
-nearest-u32-to-f32-requires-2 : tie.Need-nearest-u32-to-f32-requires-2
-nearest-u32-to-f32-requires-2 c κs = search needs
+nearest-to-requires-2 : tie.Need-nearest-to-requires-2
+nearest-to-requires-2 c κs = search needs
 
 sine-cosine-requires : tie.Need-sine-cosine-requires
 sine-cosine-requires c κs = search needs
@@ -44,15 +44,15 @@ round-i32-requires-2 c κs = search needs
 
 returns : tie.Need-returns
 returns c =
-    made (c .before .before .before .before .before .before .before .before .before .before .before .args .o) (c .before .before .before .before .before .before .before .before .before .before .before .args .start) (c .before .before .before .before .before .before .before .before .before .before .before .args .sweep) (c .before .before .before .before .before .before .before .before .before .before .before .args .i) (c .before .before .before .before .before .before .before .before .before .before .before .args .steps) (c .before .before .before .before .before .before .before .before .before .before .nearest-u32-to-f32 .result) (c .before .before .before .before .before .before .before .before .before .nearest-u32-to-f322 .result) (c .before .before .before .before .before .before .before .before .sine-cosine .result) (c .before .before .before .before .round-i32 .result) (c .round-i322 .result)
-    (c .before .before .before .before .before .before .before .before .before .before .nearest-u32-to-f32 .ensures) (c .before .before .before .before .before .before .before .before .before .nearest-u32-to-f322 .ensures) (c .before .before .before .before .before .before .before .before .sine-cosine .ensures) (c .before .before .before .before .round-i32 .ensures) (c .round-i322 .ensures) (record { sfits = c .before .before .before .before .round-i32 .ok }) (record { sfits = c .round-i322 .ok })
+    made (c .before .before .before .before .before .before .before .before .before .before .before .args .o) (c .before .before .before .before .before .before .before .before .before .before .before .args .start) (c .before .before .before .before .before .before .before .before .before .before .before .args .sweep) (c .before .before .before .before .before .before .before .before .before .before .before .args .i) (c .before .before .before .before .before .before .before .before .before .before .before .args .steps) (c .before .before .before .before .before .before .before .before .before .before .nearest-to .result) (c .before .before .before .before .before .before .before .before .before .nearest-to2 .result) (c .before .before .before .before .before .before .before .before .sine-cosine .result) (c .before .before .before .before .round-i32 .result) (c .round-i322 .result)
+    (c .before .before .before .before .before .before .before .before .before .before .nearest-to .ensures) (c .before .before .before .before .before .before .before .before .before .nearest-to2 .ensures) (c .before .before .before .before .before .before .before .before .sine-cosine .ensures) (c .before .before .before .before .round-i32 .ensures) (c .round-i322 .ensures) (record { sfits = c .before .before .before .before .round-i32 .ok }) (record { sfits = c .round-i322 .ok })
 
 pub stroke-point-spec : {M : Type 1} → statement M
 stroke-point-spec =
     tie.close
     (tie.spec
-    nearest-u32-to-f32-requires
-    nearest-u32-to-f32-requires-2
+    nearest-to-requires
+    nearest-to-requires-2
     sine-cosine-requires
     round-i32-requires
     round-i32-requires-2
