@@ -1,5 +1,5 @@
 //! Segments cut to the screen, ours against the Rust's `clip_segment`: `cuts N SEED`. The boundaries first, then N at random.
-//! The four ends must be the same, or nothing be left on both sides and the lent ends as before.
+//! The four ends must be the same, or nothing be left on both sides.
 
 extern crate alloc;
 
@@ -10,21 +10,23 @@ mod canvas;
 use std::process::ExitCode;
 
 unsafe extern "C" {
-    fn tuyrashka_segment_ends(x1: i32, y1: i32, x2: i32, y2: i32, width: u32, height: u32, ends: *mut i32, n: usize) -> u32;
+    fn segment_left(x1: i32, y1: i32, x2: i32, y2: i32, width: u32, height: u32) -> bool;
+    fn segment_end(which: u32, x1: i32, y1: i32, x2: i32, y2: i32, width: u32, height: u32) -> i32;
 }
 
-/// What the lent ends hold before a call.
-const LENT: [i32; 4] = [-77, 1 << 30, 0x5A5A_5A5A, i32::MIN];
+/// The ends where nothing is left.
+const NONE: [i32; 4] = [0; 4];
 
 /// Whether something is left, and the ends then.
 fn ours([x1, y1, x2, y2]: [i32; 4], (width, height): (u32, u32)) -> (u32, [i32; 4]) {
-    let mut ends = LENT;
-    let left = unsafe { tuyrashka_segment_ends(x1, y1, x2, y2, width, height, ends.as_mut_ptr(), ends.len()) };
+    let left = unsafe { segment_left(x1, y1, x2, y2, width, height) } as u32;
+    let end = |which| unsafe { segment_end(which, x1, y1, x2, y2, width, height) };
+    let ends = [end(0), end(1), end(2), end(3)];
     (left, ends)
 }
 
 fn rust([x1, y1, x2, y2]: [i32; 4], (width, height): (u32, u32)) -> (u32, [i32; 4]) {
-    canvas::segment_ends(x1, y1, x2, y2, width, height).map_or((0, LENT), |(x1, y1, x2, y2)| (1, [x1, y1, x2, y2]))
+    canvas::segment_ends(x1, y1, x2, y2, width, height).map_or((0, NONE), |(x1, y1, x2, y2)| (1, [x1, y1, x2, y2]))
 }
 
 #[derive(Default)]
