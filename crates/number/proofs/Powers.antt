@@ -4,27 +4,35 @@ use mathlib.Core.Path.{_≡_, refl, sym, ap, _∙_, subst}
 use mathlib.Core.Logic.{_⊎_, inl, inr}
 use mathlib.Core.Bool.{Bool, true, false, not, _&&_}
 use Prim.Native.Nat.{ℕ, zero, suc, _+_, _-_, _*_, _/_, _%_, _^_, _≤_, _<_, min}
-use native.Mathlib.Nat.{le-trans, le-of-eq, lt-of-lt-of-le, lt-of-le-of-lt, lt-irrefl, lt-of-not-le, mul-one, one-mul, mul-assoc, mul-right-comm, mul-pos, mul-le-mul-right, mul-lt-mul-of-pos-right, lt-of-mul-lt-mul-right, div-lt-iff-lt-mul}
+use native.Mathlib.Nat.{le-trans, le-of-eq, le-of-lt, lt-of-lt-of-le, lt-of-le-of-lt, lt-irrefl, lt-of-not-le, mul-one, one-mul, mul-assoc, mul-right-comm, mul-pos, mul-le-mul-right, mul-lt-mul-of-pos-right, lt-of-mul-lt-mul-right, div-lt-iff-lt-mul}
 use native.Mathlib.Omega.{arith}
 use lib.Dec.{T, leb, ltb, eqb, ltb→lt, lt→ltb, leb→le, nleb→lt, eqb→eq, lit<}
 use lib.Pow.{pow-add, pow-pos, pow-mono, pow-lt}
 use lib.IntN.{ℤ, pos, negsuc}
+<<<<<<< HEAD
 use lib.Ieee.{Float, nan, inf, fin, Format, binary32, prec, emax, low, up, down, round, mul, lt, fits, toUnsigned, unlike}
+=======
+use lib.Ieee.{Float, nan, inf, fin, Format, binary32, prec, emax, low, up, down, round, mul, ofInt, lt, fits, toUnsigned, unlike}
+>>>>>>> bce98270666ec9684b9bbbcb1be18197b02b2b51
 use lib.Ieee.Fits.{up-pos, down-pos, and-l, and-r}
 use lib.Ieee.Exact.{HasValue, round-exact}
+use lib.Ieee.Back.{round-whole}
 use lib.Ieee.Nearest.{div-same}
 use Rattle.std.proofs.num.Truncating.{minus-one, two-to}
 
 -- ---- what a format that holds a number tells of it
-told : (f : Format) (s : Bool) (m : ℕ) (e : ℤ) → T (fits f (fin s (suc m) e)) → (suc m < 2 ^ prec f) × (down e ≤ 2 ^ low f)
+told : (f : Format) (s : Bool) (m : ℕ) (e : ℤ) → T (fits f (fin s (suc m) e)) → (suc m < 2 ^ prec f) × (down e ≤ 2 ^ low f) × (suc m * up e < 2 ^ suc (emax f) * down e)
 unfolding fits
 told f s m e t =
     let a = eqb (suc m % 2) 1 in
     let b = ltb (suc m) (2 ^ prec f) in
     let c = leb (down e) (2 ^ low f) in
     let d = ltb (suc m * up e) (2 ^ suc (emax f) * down e) in
-    let u = and-l (a && b && c) d t in
-    (ltb→lt (suc m) (2 ^ prec f) (and-r a b (and-l (a && b) c u)), leb→le (down e) (2 ^ low f) (and-r (a && b) c u))
+    let u = and-l (a && b && c) d t in (
+      ltb→lt (suc m) (2 ^ prec f) (and-r a b (and-l (a && b) c u)),
+      leb→le (down e) (2 ^ low f) (and-r (a && b) c u),
+      ltb→lt (suc m * up e) (2 ^ suc (emax f) * down e) (and-r (a && b && c) d t),
+    )
 
 pub few : (f : Format) (s : Bool) (m : ℕ) (e : ℤ) → T (fits f (fin s m e)) → m < 2 ^ prec f
 few f s zero e t = pow-pos (prec f)
@@ -37,6 +45,13 @@ pub shallow : (f : Format) (s : Bool) (m : ℕ) (e : ℤ) → T (fits f (fin s m
 unfolding fits
 shallow f s zero e t = le-trans (one-at-most (up e) (down e) (up-pos e) (eqb→eq (up e * down e) 1 t)) (pow-pos (low f))
 shallow f s (suc m) e t = told f s m e t .1
+
+pub bounded : (f : Format) (s : Bool) (m : ℕ) (e : ℤ) → T (fits f (fin s m e)) → m * up e < 2 ^ suc (emax f) * down e
+bounded f s zero e t = none (up e) (2 ^ suc (emax f) * down e) (mul-pos (pow-pos (suc (emax f))) (down-pos e))
+  where
+    none : (u d : ℕ) → 0 < d → 0 * u < d
+    none u d h = omega arith
+bounded f s (suc m) e t = told f s m e t .2
 
 pub without-sign : (f : Format) (s : Bool) (m : ℕ) (e : ℤ) → T (fits f (fin s m e)) → T (fits f (fin false m e))
 unfolding fits
@@ -115,6 +130,11 @@ times-pow f j s m e t h k =
     let D : 0 < down e * 1 = mul-pos (down-pos e) (lit< tt) in
     subst (λ (b : Bool). HasValue (round f (unlike s false) (m * up e * (1 * 2 ^ j)) (down e * 1)) b (m * up e * (1 * 2 ^ j)) (down e * 1)) (like s)
     (round-exact f (unlike s false) (m * up e * (1 * 2 ^ j)) (down e * 1) m (z .0) D (few f s m e t) (room (m * up e) (down e) j (low f) (m * 2 ^ z .0) (suc (emax f)) (down-pos e) h k (z .1)) (z .1))
+
+-- ---- a whole number that an f32 holds
+pub of-int : (n : ℕ) → n < 0x100_0000 → HasValue (ofInt binary32 (pos n)) false n 1
+unfolding ofInt
+of-int n h = round-whole binary32 false n (le-of-lt h)
 
 -- ---- the whole part of y, which is a / c and not negative: what `truncating_` asks, and what it gives
 abbrev pub Whole : Float → ℕ → ℕ → Type 0

@@ -2,20 +2,19 @@
 use mathlib.Core.Path.{_≡_, refl, sym, ap, _∙_, subst}
 use mathlib.Core.Bool.{Bool, true, false, not}
 use Prim.Native.Nat.{ℕ, suc, _+_, _-_, _*_, _/_, _^_, _≤_, _<_, min}
-use native.Mathlib.Nat.{le-antisymm, le-of-lt, mul-one, mul-pos, mul-lt-mul-of-pos-right, lt-of-mul-lt-mul-right, mul-le-mul-right, div-one, div-eq-of-lt-le, div-lt-iff-lt-mul, le-div-iff-mul-le, div-mul-le-self, lt-div-mul-add, div-le-self}
+use native.Mathlib.Nat.{le-antisymm, mul-one, mul-pos, mul-lt-mul-of-pos-right, lt-of-mul-lt-mul-right, mul-le-mul-right, div-one, div-eq-of-lt-le, div-lt-iff-lt-mul, le-div-iff-mul-le, div-mul-le-self, lt-div-mul-add, div-le-self}
 use native.Mathlib.Omega.{arith}
 use lib.Dec.{T, ltb, eqb, ltb→lt, nltb→le, lit<}
 use lib.IntN.{ℤ, pos, negsuc}
 use lib.Ieee.{Float, nan, inf, fin, binary32, up, down, lt, eq, le, fits, ofInt, toUnsigned}
 use lib.Ieee.Fits.{down-pos}
 use lib.Ieee.Exact.{HasValue}
-use lib.Ieee.Back.{round-whole}
 use borrow.Author.Tests.{lt-ltb, le-ltb, ltb-true, ltb-false}
 use Rattle.std.proofs.num.Truncating.{one, two-to}
 use Rattle.number.specs.Size.{plusZero}
 use Rattle.number.specs.Whole.{ceilSize}
 use Rattle.number.proofs.Range.{le-yes, le-no, not-zero, no-more}
-use Rattle.number.proofs.Powers.{few}
+use Rattle.number.proofs.Powers.{few, of-int}
 
 top-ceil : (n d : ℕ) → 0 < d → 1 * 2 ^ 63 * d ≤ n * 1 → 0x7fff_ffff_ffff_ffff ≡ min ((n + (d - 1)) / d) 0x7fff_ffff_ffff_ffff
 top-ceil n d D h = go ((n + (d - 1)) / d) (le-div-iff-mul-le D .1 (omega arith))
@@ -64,10 +63,6 @@ less-than (fin false n d) q m e t v h = go (ltb (q * down e) (m * up e)) refl �
     go : (b : Bool) → ltb (q * down e) (m * up e) ≡ b → ltb (q * down e) (m * up e) ≡ ltb (n * up d * down e) (m * up e * down d)
     go true g = g ∙ sym (lt-ltb (n * up d * down e) (m * up e * down d) (one-way (n * up d) (m * up e) (down e) (down d) 0 (v .1) (ltb-true (q * down e) (m * up e) g) (down-pos d)))
     go false g = g ∙ sym (le-ltb (n * up d * down e) (m * up e * down d) (other-way (n * up d) (m * up e) (down e) (down d) 0 (v .1) (ltb-false (q * down e) (m * up e) g)))
-
-of-int : (n : ℕ) → n < 0x100_0000 → HasValue (ofInt binary32 (pos n)) false n 1
-unfolding ofInt
-of-int n h = round-whole binary32 false n (le-of-lt h)
 
 -- a float with 2 ^ 24 or more before the point has nothing behind it
 no-part : (m : ℕ) (e : ℤ) → m < 2 ^ 24 → 0x100_0000 ≤ m * up e / down e → m * up e / down e * down e ≡ m * up e

@@ -1,0 +1,3 @@
+-- What the proofs of the remainder by 360 use.
+pub mod Parts
+pub mod Turns
