@@ -1,16 +1,15 @@
 -- What is left, from ends that arrive as `toZ w (ofZ w x)`.
-use mathlib.Core.Path.{_≡_, refl, ap, _∙_}
-use mathlib.Core.Bool.{Bool, true, false, cond}
+use mathlib.Core.Path.{_≡_}
+use mathlib.Core.Bool.{Bool}
 use Prim.Native.Nat.{ℕ}
 use borrow.Author.Tests.{eq-eqb, ne-eqb}
-use lib.Dec.{eqb}
-use lib.IntN.{ℤ, pos}
+use lib.IntN.{ℤ}
 use mir.Syntax.{w32}
 use mir.Val.{SFits, toZ, ofZ}
 use mir.ValLaws.{toZ-ofZ}
 use Rattle.segments.specs.declared.Segment.{Segment}
 use Rattle.segments.specs.declared.Clipped.{Clipped}
-use Rattle.segments.specs.declared.Clipped.the-variants.{Left, Nothing}
+use Rattle.segments.specs.declared.Clipped.the-variants.{Left}
 use Rattle.segments.specs.Cut.{clipSegment}
 use Rattle.segment_exports.specs.Ends.{isLeft, endOf}
 

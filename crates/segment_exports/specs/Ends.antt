@@ -3,7 +3,6 @@ use mathlib.Core.Bool.{Bool, true, false, cond}
 use Prim.Native.Nat.{ℕ}
 use lib.Dec.{eqb}
 use lib.IntN.{ℤ, pos}
-use Rattle.segments.specs.declared.Segment.{Segment}
 use Rattle.segments.specs.declared.Clipped.{Clipped}
 use Rattle.segments.specs.declared.Clipped.the-variants.{Left, Nothing}
 

@@ -1,9 +1,9 @@
 -- The tests of a column or row, which arrives as `toZ w (ofZ w x)`.
 use mathlib.Core.Path.{_≡_, refl, sym, subst}
-use mathlib.Core.Bool.{Bool, true, false, _&&_}
+use mathlib.Core.Bool.{Bool, true, false}
 use Prim.Native.Nat.{ℕ, _<_}
 use native.Mathlib.Omega.{arith}
-use borrow.Author.Tests.{ltb-true, lt-leb, ltb-false, le-leb, eqb-true}
+use borrow.Author.Tests.{ltb-true, lt-leb, ltb-false, le-leb}
 use lib.Dec.{T, leb}
 use lib.IntN.{ℤ, pos, negsuc, natAbs}
 use lib.Signed.{ltZ}

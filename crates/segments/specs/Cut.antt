@@ -1,5 +1,5 @@
 -- What a canvas has of a segment, in the words and the order of 01. Definitions only.
-use mathlib.Core.Bool.{Bool, true, false, cond, _&&_}
+use mathlib.Core.Bool.{Bool, false, cond, _&&_}
 use Prim.Native.Nat.{ℕ}
 use lib.IntN.{ℤ, pos, negsuc}
 use lib.Signed.{leZ}

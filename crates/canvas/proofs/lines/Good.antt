@@ -1,6 +1,6 @@
 -- Bresenham's err, while a columns and c rows are left: a step on the longer side is always made, one on the other side only
 -- where it is not yet walked, and at the end both are.
-use mathlib.Core.Path.{_≡_, refl, ap, _∙_}
+use mathlib.Core.Path.{_≡_, ap, _∙_}
 use mathlib.Core.Bool.{true, false, cond}
 use Prim.Native.Nat.{ℕ, suc, _+_, _*_, _-_, _≤_, _<_}
 use native.Mathlib.Omega.{arith}

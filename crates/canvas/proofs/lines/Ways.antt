@@ -1,15 +1,15 @@
 -- A step keeps the walk on its way, one nearer to its end.
 use mathlib.Core.Path.{_≡_, refl, subst}
 use mathlib.Core.Bool.{Bool, true, false, cond}
-use Prim.Native.Nat.{ℕ, zero, suc, _+_, _*_, _-_, _≤_, _<_}
+use Prim.Native.Nat.{ℕ, suc, _+_, _*_, _-_, _≤_, _<_}
 use native.Mathlib.Omega.{arith}
 use native.Mathlib.Nat.{add-zero, sub-zero}
 use native.Mathlib.Decide.{ℕ-discrete, decLe}
 use borrow.Author.Tests.{ltb-true, ltb-false, lt-ltb, le-leb, lt-leb}
-use lib.Dec.{ltb, leb}
+use lib.Dec.{leb}
 use Rattle.canvas.specs.declared.lines.Pen.{Pen}
 use Rattle.canvas.specs.declared.lines.Way.{Way}
-use Rattle.canvas.specs.Trail.{apart, toward, across, along, next, ahead, Good, Side, Goes, Steps}
+use Rattle.canvas.specs.Trail.{apart, toward, across, along, next, ahead, Side, Goes, Steps}
 use Rattle.canvas.proofs.lines.Good.{good-end, end-good, good-small, Stepped, good-step}
 
 -- ---- one column or row

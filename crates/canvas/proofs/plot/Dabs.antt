@@ -5,7 +5,7 @@ use mathlib.Core.List.{List, [], _∷_}
 use Prim.Native.Nat.{ℕ, suc, _+_, _-_, _≤_, _<_}
 use native.Mathlib.Omega.{arith}
 use native.Mathlib.Decide.{decLt}
-use borrow.Author.Tests.{leb-true, ltb-true, le-ltb, lt-leb, le-leb}
+use borrow.Author.Tests.{ltb-true, le-ltb, lt-leb, le-leb}
 use lib.Dec.{ltb, leb}
 use lib.IntN.{ℤ, pos, negsuc, natAbs}
 use lib.ListN.{length}
@@ -19,7 +19,7 @@ use Rattle.canvas.specs.Plot.{Point, at, Plot, plot, inks, hit, landed, 
 use Rattle.canvas.specs.Walk.{lowered, Holds, Cut, plus, Work, work, act, drawn, Did, covers, dabbed, dabs, Window, Fields}
 use Rattle.canvas.proofs.span.Lifts.{lowered-neg, lowered-pos}
 use Rattle.canvas.proofs.span.Spans.{both-no, same-leb}
-use Rattle.canvas.proofs.plot.Fates.{side-yes, side-past, side-minus, both-left, both-right}
+use Rattle.canvas.proofs.plot.Fates.{side-yes, side-past, side-minus, both-right}
 use Rattle.canvas.proofs.plot.Draws.{touch-length}
 
 side-holds : (n : ℕ) → Holds (λ i. within (pos 0) n (pos i)) 0 n

@@ -1,7 +1,7 @@
 -- When an arc or a round outline is nothing, a plain outline, or strokes.
-use mathlib.Core.Path.{_≡_, refl, sym, ap, ap₂, _∙_}
-use mathlib.Core.Bool.{Bool, true, false, cond, _||_}
-use mathlib.Core.List.{List, [], _++_}
+use mathlib.Core.Path.{_≡_, refl}
+use mathlib.Core.Bool.{true, _||_}
+use mathlib.Core.List.{[], _++_}
 use Prim.Native.Nat.{ℕ, _-_, _<_}
 use lib.Dec.{eqb}
 use lib.IntN.{ℤ, pos, _+ℤ_}
@@ -10,19 +10,15 @@ use mir.Syntax.{w32}
 use mir.Val.{SFits, toZ, ofZ}
 use mir.ValLaws.{toZ-ofZ}
 use Rattle.number.specs.Degrees.{radiansOf}
-use Rattle.angle.specs.Stroke.{radians}
 use Rattle.curves.specs.declared.ovals.Oval.{Oval}
 use Rattle.curves.specs.declared.corners.Corners.{Corners}
 use Rattle.curves.specs.Ovals.{ovalOf}
 use Rattle.curves.specs.Corners.{radiusOf, insetOf, cornersOf}
 use Rattle.canvas.specs.declared.Canvas.{Canvas}
-use Rattle.canvas.specs.declared.Clip.{Clip}
-use Rattle.canvas.specs.Plot.{Point, inks}
 use Rattle.canvas.specs.Boxes.{outline}
 use Rattle.canvas.specs.Strokes.{stroke, arc, edges, quarters, roundOutline}
-use Rattle.canvas.specs.Walk.{lowered, Work, Did}
+use Rattle.canvas.specs.Walk.{lowered}
 use Rattle.canvas.proofs.ovals.Sieves.{no-side}
-use Rattle.canvas.proofs.strokes.Chains.{then}
 
 -- ---- arcs
 

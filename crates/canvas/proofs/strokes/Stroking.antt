@@ -1,6 +1,5 @@
 -- The stroke's loop: what is left of its points leads to the same end.
-use mathlib.Core.Path.{_≡_, refl, sym, ap, ap₂, _∙_}
-use mathlib.Core.List.{List, [], _∷_}
+use mathlib.Core.Path.{_≡_, refl, ap, ap₂, _∙_}
 use Prim.Native.Nat.{ℕ, zero, suc, _+_, _*_, _-_, _≤_, _<_, max}
 use native.Mathlib.Omega.{arith}
 use lib.IntN.{ℤ}
@@ -14,7 +13,7 @@ use Rattle.curves.specs.Strokes.{stepsOf, strokePoint}
 use Rattle.canvas.specs.declared.Canvas.{Canvas}
 use Rattle.canvas.specs.declared.Clip.{Clip}
 use Rattle.canvas.specs.declared.span.Span.{Span}
-use Rattle.canvas.specs.Plot.{Point, at, inks}
+use Rattle.canvas.specs.Plot.{at, inks}
 use Rattle.canvas.specs.Strokes.{pointOf, strokeFrom, stroke}
 use Rattle.canvas.specs.Walk.{lifted, lowered, Work, Did, dabbed, dabs, Window}
 use Rattle.canvas.proofs.span.Lifts.{lowers}

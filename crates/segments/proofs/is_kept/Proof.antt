@@ -1,6 +1,5 @@
 -- One end after the other.
 use Rattle.segments.proofs.Near.{is-inside, both-inside, first-outside}
-use borrow.Author.Needs.{needs}
 use Rattle.segments.proofs.is_kept.Statement.{statement}
 use Rattle.segments.proofs.is_kept.Tie as tie
 

@@ -1,10 +1,8 @@
 -- The three steps that there are.
-use mathlib.Core.Path.{refl, sym, ap, ap₂, _∙_}
-use Rattle.canvas.specs.declared.lines.Pen.{Pen}
+use mathlib.Core.Path.{sym, _∙_}
 use native.Mathlib.Omega.{arith}
-use mathlib.Core.Path.{refl, sym, _∙_, ap₂}
-use borrow.Author.Tests.{not-true, not-false}
-use Rattle.canvas.proofs.lines.Ways.{small, back-one, takes-x, takes-y, then-y, room-x, room-y, stepped, next-xy, next-x, next-y}
+use mathlib.Core.Path.{sym, _∙_}
+use Rattle.canvas.proofs.lines.Ways.{small, back-one, takes-x, then-y, room-x, room-y, stepped, next-xy, next-x, next-y}
 use borrow.Author.Needs.{needs}
 use Rattle.canvas.proofs.lines.advance.Statement.{statement}
 use Rattle.canvas.proofs.lines.advance.Tie as tie

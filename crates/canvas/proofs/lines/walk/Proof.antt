@@ -1,11 +1,11 @@
 -- What is left of the trail leads to the same end.
 use native.Mathlib.Omega.{arith}
-use mathlib.Core.Path.{_≡_, sym, ap, _∙_}
+use mathlib.Core.Path.{ap, _∙_}
 use mathlib.Core.Logic.{⊎-elim}
 use Rattle.words.specs.Ink.{inked}
 use lib.ListN.{length}
 use Rattle.canvas.specs.Walk.{Work, work}
-use Rattle.canvas.specs.Trail.{next, ahead, trail}
+use Rattle.canvas.specs.Trail.{ahead, trail}
 use Rattle.canvas.proofs.bytes.Pixels.{sized-length}
 use Rattle.canvas.proofs.plot.Dabs.{dabbed-length, dabbing-length}
 use Rattle.canvas.proofs.lines.Ways.{not-end, nearer}

@@ -1,6 +1,6 @@
 -- Two tests, and the pixel inked and counted.
 use native.Mathlib.Omega.{arith}
-use mathlib.Core.Path.{refl, sym, _∙_}
+use mathlib.Core.Path.{sym, _∙_}
 use borrow.Author.Tests.{not-true, not-false}
 use Rattle.words.specs.Ink.{inked}
 use Rattle.canvas.proofs.plot.Dabs.{covered, misses-x, misses-y, dab-lands}

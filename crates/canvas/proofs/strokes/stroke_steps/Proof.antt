@@ -1,10 +1,8 @@
 -- What is left of the stroke leads to the same end.
 use native.Mathlib.Omega.{arith}
-use mathlib.Core.Path.{_≡_, ap, _∙_}
 use Rattle.words.specs.Ink.{inked}
-use lib.ListN.{length}
 use Prim.Native.Nat.{suc, _-_}
-use Rattle.canvas.specs.Walk.{Work, work}
+use Rattle.canvas.specs.Walk.{work}
 use Rattle.canvas.proofs.bytes.Pixels.{sized-length}
 use Rattle.canvas.proofs.plot.Dabs.{dabbing-length}
 use Rattle.canvas.proofs.strokes.Stroking.{Stroking, stroking-start, stroking-room, stroking-turn, stroking-end}
