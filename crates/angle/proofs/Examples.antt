@@ -4,12 +4,12 @@ use mathlib.Core.Path.{_≡_, refl}
 use mathlib.Core.Bool.{false}
 use Prim.Native.Nat.{_+_, _/_}
 use lib.IntN.{pos, negsuc, negℤ, pow, one}
-use lib.Ieee.{fin, binary32, ofBits, toBits, round, neg, add, sub, mul, le, lt, eq}
+use lib.Ieee.{fin, binary32, ofBits, toBits, round, neg, add, le, lt, eq}
 use Rattle.number.specs.Degrees.{degree}
 use Rattle.number.specs.Size.{plusZero, signOf}
-use Rattle.angle.specs.Meaning.{H, nearestK, rest, whole, coef, term, terms, mod4, placed, sine, cosine}
+use Rattle.angle.specs.Meaning.{H, fact, nearestK, rest, whole, coef, term, terms, mod4, placed, sine, cosine}
 use Rattle.angle.specs.Nodes.{nodes}
-use Rattle.angle.specs.Sine.{unitsOf, kOf, shortOf, restOf, sineFrom, cosineFrom, asF32, sineAt, cosineAt, sineOf, cosineOf}
+use Rattle.angle.specs.Sine.{unitsOf, kOf, shortOf, restOf, timesOf, lessOf, sineFrom, cosineFrom, asF32, sineAt, cosineAt, sineOf, cosineOf}
 use Rattle.angle.specs.Arctangent.{eighth, turn, halvesOf, degreesOf, arctangentOf}
 
 constant : degree ≡ ofBits binary32 0x3C8E_FA35
@@ -44,20 +44,20 @@ sine-H = refl
 
 -- ---- the rule of the sine and the cosine
 minus-zero : sineOf (neg plusZero) ≡ plusZero
-unfolding sineOf unitsOf le lt eq add round toBits kOf shortOf restOf sineAt cosineAt sineFrom cosineFrom sub mul placed asF32 neg ofBits
+unfolding sineOf unitsOf le lt eq add round toBits kOf shortOf restOf sineAt cosineAt sineFrom cosineFrom timesOf lessOf fact placed asF32 neg
 minus-zero = refl
 
 zero-stays : sineOf plusZero ≡ plusZero
-unfolding sineOf unitsOf le lt eq add round toBits kOf shortOf restOf sineAt cosineAt sineFrom cosineFrom sub mul placed asF32 neg ofBits
+unfolding sineOf unitsOf le lt eq add round toBits kOf shortOf restOf sineAt cosineAt sineFrom cosineFrom timesOf lessOf fact placed asF32
 zero-stays = refl
 
 -- sin 1 and cos 1
 sine-1 : sineOf (ofBits binary32 0x3F80_0000) ≡ ofBits binary32 0x3F57_6AA4
-unfolding sineOf unitsOf le lt eq add round toBits kOf shortOf restOf sineAt cosineAt sineFrom cosineFrom sub mul placed asF32 neg ofBits
+unfolding sineOf unitsOf le lt eq add round toBits kOf shortOf restOf sineAt cosineAt sineFrom cosineFrom timesOf lessOf fact placed asF32 neg ofBits
 sine-1 = refl
 
 cosine-1 : cosineOf (ofBits binary32 0x3F80_0000) ≡ ofBits binary32 0x3F0A_5140
-unfolding cosineOf unitsOf le lt eq add round toBits kOf shortOf restOf sineAt cosineAt sineFrom cosineFrom sub mul placed asF32 neg ofBits
+unfolding cosineOf unitsOf le lt eq add round toBits kOf shortOf restOf sineAt cosineAt sineFrom cosineFrom timesOf lessOf fact placed asF32 neg ofBits
 cosine-1 = refl
 
 -- ---- the rule of the arctangent, outside its domain too

@@ -1,6 +1,5 @@
 -- What the proofs of the sine and the cosine use.
 pub mod Units
-pub mod Values
 pub mod Rest
 pub mod Products
 pub mod Series

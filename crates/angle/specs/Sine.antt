@@ -1,13 +1,12 @@
--- "one written rule that determines the answer": the angle brought near 0 in whole numbers, and the sine and the
--- cosine of the rest in f32.
+-- "one written rule that determines the answer": the sine and the cosine in whole numbers, each step rounded down.
 -- Definitions only.
 use Prim.Native.Nat.{ℕ, _+_, _-_, _*_, _/_, _%_, _^_}
 use mathlib.Core.Bool.{Bool, true, false, _&&_, cond}
 use lib.Dec.{ltb}
 use lib.IntN.{pos}
-use lib.Ieee.{Float, fin, binary32, binary64, neg, add, sub, mul, le, ofBits, toBits, round}
+use lib.Ieee.{Float, fin, binary32, binary64, neg, add, le, toBits, round}
 use Rattle.angle.specs.declared.sine.SineCosine.{SineCosine}
-use Rattle.angle.specs.Meaning.{placed}
+use Rattle.angle.specs.Meaning.{fact, placed}
 
 -- ---- the angle, in units of 2 ^ -46
 
@@ -46,63 +45,56 @@ shortOf n = ltb (turnOf n % hUnits) halfH
 unfoldable pub restOf : ℕ → ℕ
 restOf n = let q = turnOf n % hUnits in cond (ltb q halfH) (halfH - q) (q - halfH)
 
--- ---- the series, in f32
+-- ---- the series, in units of 2 ^ -31
 
--- n / 2 ^ 48, to the nearest.
-unfoldable pub asF32 : ℕ → Float
-asF32 n = round binary32 false n (2 ^ 48)
+-- What stands for 1.
+abbrev pub one31 : ℕ
+one31 = 0x8000_0000
 
--- 1 / m!, to the nearest, for m = 0, 2, 4, .. and m = 3, 5, ..
-abbrev pub over0 : Float
-over0 = ofBits binary32 0x3F80_0000
+-- The rest, and its square.
+abbrev pub cutOf : ℕ → ℕ
+cutOf r = r / 2 ^ 15
 
-abbrev pub over2 : Float
-over2 = ofBits binary32 0x3F00_0000
+abbrev pub squareOf : ℕ → ℕ
+squareOf r = cutOf r * cutOf r / one31
 
-abbrev pub over3 : Float
-over3 = ofBits binary32 0x3E2A_AAAB
+-- z * w, and a less that.
+unfoldable pub timesOf : ℕ → ℕ → ℕ
+timesOf z w = z * w / one31
 
-abbrev pub over4 : Float
-over4 = ofBits binary32 0x3D2A_AAAB
+unfoldable pub lessOf : ℕ → ℕ → ℕ → ℕ
+lessOf a z w = a - timesOf z w
 
-abbrev pub over5 : Float
-over5 = ofBits binary32 0x3C08_8889
+-- 1 / m!
+abbrev pub over : ℕ → ℕ
+over m = one31 / fact m
 
-abbrev pub over6 : Float
-over6 = ofBits binary32 0x3AB6_0B61
+-- ---- the answer, in units of 2 ^ -48
 
-abbrev pub over7 : Float
-over7 = ofBits binary32 0x3950_0D01
-
-abbrev pub over8 : Float
-over8 = ofBits binary32 0x37D0_0D01
-
-abbrev pub over9 : Float
-over9 = ofBits binary32 0x3638_EF1D
-
-abbrev pub over10 : Float
-over10 = ofBits binary32 0x3493_F27E
-
--- a - z * w
-abbrev pub lessOf : Float → Float → Float → Float
-lessOf a z w = sub binary32 a (mul binary32 z w)
-
--- r - r * (z * (1 / 3! - z * (1 / 5! - z * (1 / 7! - z / 9!)))), where z is the square of r.
-unfoldable pub sineFrom : Float → Float → Float
-sineFrom r z = sub binary32 r (mul binary32 r (mul binary32 z (lessOf over3 z (lessOf over5 z (lessOf over7 z over9)))))
+-- r - r * z * (1 / 3! - z * (1 / 5! - z * (1 / 7! - z / 9!)))
+unfoldable pub sineFrom : ℕ → ℕ → ℕ
+sineFrom r z = r * 4 - cutOf r * timesOf z (lessOf (over 3) z (lessOf (over 5) z (lessOf (over 7) z (over 9)))) / 2 ^ 14
 
 -- 1 - z * (1 / 2! - z * (1 / 4! - z * (1 / 6! - z * (1 / 8! - z / 10!))))
-unfoldable pub cosineFrom : Float → Float
-cosineFrom z = lessOf over0 z (lessOf over2 z (lessOf over4 z (lessOf over6 z (lessOf over8 z over10))))
+unfoldable pub cosineFrom : ℕ → ℕ
+cosineFrom z = lessOf (over 0) z (lessOf (over 2) z (lessOf (over 4) z (lessOf (over 6) z (lessOf (over 8) z (over 10))))) * 2 ^ 17
 
--- ---- the answers
+abbrev pub sineUnits : ℕ → ℕ
+sineUnits r = sineFrom r (squareOf r)
+
+abbrev pub cosineUnits : ℕ → ℕ
+cosineUnits r = cosineFrom (squareOf r)
+
+-- The nearest f32.
+unfoldable pub asF32 : Bool → ℕ → Float
+asF32 minus n = round binary32 minus n (2 ^ 48)
 
 -- The rest's sine, with a minus where the rest is taken off, and its cosine.
 unfoldable pub sineAt : Bool → ℕ → Float
-sineAt short rest = let r = asF32 (rest * 4) in let y = sineFrom r (mul binary32 r r) in cond short (neg y) y
+sineAt short r = asF32 short (sineUnits r)
 
 unfoldable pub cosineAt : ℕ → Float
-cosineAt rest = let r = asF32 (rest * 4) in cosineFrom (mul binary32 r r)
+cosineAt r = asF32 false (cosineUnits r)
 
 unfoldable pub sineOf : Float → Float
 sineOf t = let n = unitsOf t in placed neg (kOf n % 4) (sineAt (shortOf n) (restOf n)) (cosineAt (restOf n))

@@ -1,30 +1,64 @@
-// Sine and cosine: the angle brought near 0 in whole units of 2^-46, and the series of the rest in f32.
+// Sine and cosine by whole numbers: the rest in units of 2^-46, its series in units of 2^-31, the answer in units of 2^-48.
 ghost use mathlib.Core.Path.{_≡_};
 ghost use Prim.Native.Nat.{_%_, _≤_};
 ghost use mathlib.Core.Bool.{cond};
 ghost use lib.Dec.{eqb};
 ghost use lib.Ieee.{neg};
 ghost use Rattle.angle.specs.Meaning.{placed};
-ghost use Rattle.angle.specs.Sine.{halfH, unitsOf, kOf, shortOf, restOf, sineFrom, cosineFrom, asF32, sineCosineOf};
+ghost use Rattle.angle.specs.Sine.{one31, halfH, unitsOf, kOf, shortOf, restOf, squareOf, timesOf, lessOf, sineFrom, cosineFrom, asF32, sineCosineOf};
+
+// z * w, where 2^31 stands for 1.
+fn times(z: u64, w: u64) -> u64
+    requires { ⌜ (z ≤ one31) × (w ≤ one31) ⌝ }
+    ensures { λ r. ⌜ (r ≡ timesOf z w) × (r ≤ w) ⌝ }
+{
+    z * w / 0x8000_0000
+}
+
+// a - z * w
+fn less(a: u64, z: u64, w: u64) -> u64
+    requires { ⌜ (a ≤ one31) × (z ≤ one31) × (w ≤ a) ⌝ }
+    ensures { λ r. ⌜ (r ≡ lessOf a z w) × (r ≤ a) ⌝ }
+{
+    a - times(z, w)
+}
+
+// The rest's square.
+fn square(rest: u64) -> u64
+    requires { ⌜ rest ≤ halfH ⌝ }
+    ensures { λ r. ⌜ (r ≡ squareOf rest) × (r ≤ one31) ⌝ }
+{
+    let p = rest / 0x8000;
+    p * p / 0x8000_0000
+}
 
 // The rest's sine, from the rest and its square: the rest less what the other terms take off.
-fn sine_from(r: f32, z: f32) -> f32
-    ensures { λ y. ⌜ y ≡ sineFrom r z ⌝ }
+fn sine_units(rest: u64, z: u64) -> u64
+    requires { ⌜ (rest ≤ halfH) × (z ≤ one31) ⌝ }
+    ensures { λ r. ⌜ (r ≡ sineFrom rest z) × (r ≤ 0x1_0000_0000_0000) ⌝ }
 {
-    let v = z * (0.16666667 - z * (0.008333334 - z * (0.0001984127 - z * 0.0000027557319)));
-    r - r * v
+    let v = times(
+        z,
+        less(357913941, z, less(17895697, z, less(426088, z, 5917))),
+    );
+    rest * 4 - rest / 0x8000 * v / 0x4000
 }
 
 // The rest's cosine, from its square.
-fn cosine_from(z: f32) -> f32
-    ensures { λ y. ⌜ y ≡ cosineFrom z ⌝ }
+fn cosine_units(z: u64) -> u64
+    requires { ⌜ z ≤ one31 ⌝ }
+    ensures { λ r. ⌜ (r ≡ cosineFrom z) × (r ≤ 0x1_0000_0000_0000) ⌝ }
 {
-    1.0
-        - z
-            * (0.5
-                - z
-                    * (0.041666668
-                        - z * (0.0013888889 - z * (0.000024801588 - z * 0.00000027557319))))
+    let w = less(
+        0x8000_0000,
+        z,
+        less(
+            0x4000_0000,
+            z,
+            less(89478485, z, less(2982616, z, less(53261, z, 591))),
+        ),
+    );
+    w * 0x2_0000
 }
 
 // t and 32, in units of 2^-46, where the sum's last digit stands; 32 beyond 26 and for a NaN.
@@ -68,24 +102,14 @@ fn reduce(n: u64) -> Reduced
     }
 }
 
-// The f32 nearest to n / 2^48. Both summands are exact, so only the sum rounds.
-fn as_f32(n: u64) -> f32
+// The f32 nearest to n / 2^48, with a sign. Both summands are exact, so only the sum rounds.
+fn as_f32(minus: bool, n: u64) -> f32
     requires { ⌜ n ≤ 0x1_0000_0000_0000 ⌝ }
-    ensures { λ r. ⌜ r ≡ asF32 n ⌝ }
+    ensures { λ r. ⌜ r ≡ asF32 minus n ⌝ }
 {
     let high = ((n / 0x100_0000) as f32) * 0.000000059604644775390625;
     let low = ((n % 0x100_0000) as f32) * 0.000000000000003552713678800501;
-    high + low
-}
-
-// y, or its opposite.
-fn turned(minus: bool, y: f32) -> f32
-    ensures { λ r. ⌜ r ≡ cond minus (neg y) y ⌝ }
-{
-    if minus {
-        return -y;
-    }
-    y
+    if minus { -(high + low) } else { high + low }
 }
 
 // s at an even quarter, and c at an odd one.
@@ -119,10 +143,9 @@ pub fn sine_cosine(t: f32) -> SineCosine
     ensures { λ r. ⌜ r ≡ sineCosineOf t ⌝ }
 {
     let a = reduce(units_of(t));
-    let r = as_f32(a.rest * 4);
-    let z = r * r;
-    let s = turned(a.short, sine_from(r, z));
-    let c = cosine_from(z);
+    let z = square(a.rest);
+    let s = as_f32(a.short, sine_units(a.rest, z));
+    let c = as_f32(false, cosine_units(z));
     let y = placed_at(a.k, s, c);
     let cosine = placed_at(a.k + 1, s, c);
     SineCosine { sine: y, cosine }

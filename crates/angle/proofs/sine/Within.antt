@@ -3,36 +3,91 @@
 use mathlib.Core.Path.{_≡_, refl, sym, ap, _∙_, subst}
 use mathlib.Core.Logic.{_⊎_, inl, inr}
 use mathlib.Core.Bool.{Bool, true, false, not, cond}
-use Prim.Native.Nat.{ℕ, zero, suc, _+_, _-_, _*_, _/_, _%_, _^_, _≤_}
+use Prim.Native.Nat.{ℕ, zero, suc, _+_, _-_, _*_, _/_, _%_, _^_, _≤_, _<_}
+use native.Mathlib.Nat.{lt-of-le-of-lt, mul-assoc, mul-le-mul-left, mul-le-mul-right}
 use native.Mathlib.Omega.{arith}
-use lib.Dec.{T}
+use lib.Dec.{T, lit<}
 use lib.IntN.{ℤ, pos, negsuc, negℤ, natAbs, _-ℤ_, _*ℤ_, negℤ-negℤ, negℤ-+ℤ}
-use lib.Ieee.{Float, nan, inf, fin, binary32, up, down, neg, fits, round, mul, sub, add, ofBits}
-use lib.Ieee.Scale.{finite}
+use lib.Ieee.{Float, nan, inf, fin, binary32, up, down, neg, fits, round, size}
+use lib.Ieee.Scale.{grid, finite}
 use Rattle.number.specs.Size.{signOf}
-use Rattle.angle.specs.Meaning.{D, whole, signed, parts, placed, sine, cosine, UpTo26, Close}
-use Rattle.angle.specs.Sine.{unitsOf, kOf, shortOf, restOf, sineFrom, asF32, sineAt, cosineAt, sineOf, cosineOf}
+use Rattle.angle.specs.Meaning.{D, fact, whole, signed, parts, placed, sine, cosine, UpTo26, Close}
+use Rattle.angle.specs.Sine.{unitsOf, kOf, shortOf, restOf, squareOf, sineUnits, cosineUnits, timesOf, lessOf, sineFrom, asF32, sineAt, cosineAt, sineOf, cosineOf}
 use Rattle.angle.proofs.Signs as Signs
-use Rattle.angle.proofs.Signs.{opposite, product, apart}
+use Rattle.angle.proofs.Signs.{like, opposite, product, apart}
 use Rattle.angle.proofs.Terms.{sinAt, cosAt}
 use Rattle.angle.proofs.Placing.{small, sine-is, cosine-is}
 use Rattle.angle.proofs.sine.Units.{Counted, counted, size-is, inside}
 use Rattle.angle.proofs.sine.Rest.{Found, found}
-use Rattle.angle.proofs.sine.Values.{tiny, D-tiny}
-use Rattle.angle.proofs.sine.Series.{Meant, sin-meant, cos-meant}
-use Rattle.angle.proofs.Rounded.{is}
+use Rattle.angle.proofs.sine.Products.{Near}
+use Rattle.angle.proofs.sine.Series.{sin-near, cos-near, sin-le, cos-le}
+use Rattle.angle.proofs.Rounded.{Is, half, near, rounded, neg-round}
 
--- ---- an answer that is near F is close to it
-close : (y : Float) (F : ℕ) → Meant y F → Close y (pos F)
-close y F m =
-    let i = is y false (m .s) (m .is) in
+-- ---- an answer of n / 2 ^ 48, rounded
+-- a 2 ^ -48th, in D-ths
+unfoldable k : ℕ
+k = 2 ^ 101
+
+D-is : D ≡ 0x1_0000_0000_0000 * k
+unfolding D k
+D-is = refl
+
+k-pos : 0 < k
+unfolding k
+k-pos = lit< tt
+
+abbrev g : ℕ → ℕ
+g n = grid binary32 n (2 ^ 48)
+
+half-is : half ≡ 0x400_0000 * k
+unfolding half k
+half-is = refl
+
+module _ (n : ℕ) (h : n ≤ 0x1_0000_0000_0000) where
+  in-parts : n * 2 ^ 149 ≡ n * k * 2 ^ 48
+  unfolding k
+  in-parts = sym (mul-assoc n k (2 ^ 48))
+
+  below : n * k < 2 ^ 151
+  unfolding k
+  below = lt-of-le-of-lt (mul-le-mul-right k h) (lit< tt)
+
+  it : (s : Bool) → Is (round binary32 s n (2 ^ 48)) s (g n)
+  it s = rounded n (2 ^ 48) (n * k) (lit< tt) in-parts below s
+
+  rounds : (g n ≤ n * k + 0x200_0000 * k) × (n * k ≤ g n + 0x200_0000 * k)
+  rounds = let w = near n (2 ^ 48) (n * k) (lit< tt) in-parts below in (go (g n) (n * k) half half-is (w .0), go (n * k) (g n) half half-is (w .1))
+    where
+      go : (a b c : ℕ) → c ≡ 0x400_0000 * k → a * 2 ≤ b * 2 + c → a ≤ b + 0x200_0000 * k
+      go a b c e w = omega arith
+
+-- an answer that is near F / 2 ^ 48 is close to F
+pub close : (s : Bool) (n F : ℕ) → n ≤ 0x1_0000_0000_0000 → Near (n * whole) (F * 2 ^ 48) (0xb0_0000 * whole) → Close (asF32 s n) (signed s F)
+unfolding asF32
+close s n F h e =
+    let i = it n h s in
+    let r = rounds n h in
     record {
       number = i .number;
-      near = subst (λ (z : ℤ). natAbs (z *ℤ pos whole -ℤ pos F *ℤ pos D) * 2 ^ 20 ≤ D * whole) (sym (i .parts-are)) (apart false (m .s * whole) (F * D) (2 ^ 20) (D * whole) (one (m .s * whole) (F * D) (m .near .hi)) (one (F * D) (m .s * whole) (m .near .lo)));
+      near = subst (λ (z : ℤ). natAbs z * 2 ^ 20 ≤ D * whole) (sym (same i)) (apart s (g n * whole) (F * D) (2 ^ 20) (D * whole) (one whole D D-is (r .0) (e .hi)) (two whole D D-is (r .1) (e .lo)));
     }
   where
-    one : (a b : ℕ) → a ≤ b + 29 * tiny * whole → a * 2 ^ 20 ≤ b * 2 ^ 20 + D * whole
-    one a b h = omega (arith, ap (λ (z : ℕ). z * whole) D-tiny)
+    same : Is (round binary32 s n (2 ^ 48)) s (g n) → parts (round binary32 s n (2 ^ 48)) *ℤ pos whole -ℤ signed s F *ℤ pos D ≡ signed s (g n * whole) -ℤ signed s (F * D)
+    same i =
+        ap (λ (z : ℤ). z *ℤ pos whole -ℤ signed s F *ℤ pos D) (i .parts-are)
+        ∙ ap (λ (z : ℤ). z -ℤ signed s F *ℤ pos D) (product s false (g n) whole ∙ ap (λ (b : Bool). signed b (g n * whole)) (like s))
+        ∙ ap (λ (z : ℤ). signed s (g n * whole) -ℤ z) (product s false F D ∙ ap (λ (b : Bool). signed b (F * D)) (like s))
+
+    one : (W d : ℕ) → d ≡ 0x1_0000_0000_0000 * k → g n ≤ n * k + 0x200_0000 * k → n * W ≤ F * 2 ^ 48 + 0xb0_0000 * W → g n * W * 2 ^ 20 ≤ F * d * 2 ^ 20 + d * W
+    one W d e a b = omega (arith, ap (λ (z : ℕ). F * z) e, ap (λ (z : ℕ). z * W) e, mul-le-mul-right W a, mul-le-mul-left k b)
+
+    two : (W d : ℕ) → d ≡ 0x1_0000_0000_0000 * k → n * k ≤ g n + 0x200_0000 * k → F * 2 ^ 48 ≤ n * W + 0xb0_0000 * W → F * d * 2 ^ 20 ≤ g n * W * 2 ^ 20 + d * W
+    two W d e a b = omega (arith, ap (λ (z : ℕ). F * z) e, ap (λ (z : ℕ). z * W) e, mul-le-mul-right W a, mul-le-mul-left k b)
+
+-- ---- the other sign
+pub neg-as-f32 : (s : Bool) (n : ℕ) → neg (asF32 s n) ≡ asF32 (not s) n
+unfolding asF32
+neg-as-f32 s n = neg-round s n (2 ^ 48)
 
 -- ---- by quarters
 times-minus : (a : ℤ) (w : ℕ) → negℤ a *ℤ pos w ≡ negℤ (a *ℤ pos w)
@@ -79,7 +134,7 @@ by-quarter (suc (suc (suc r))) a b = turned b
 
 -- a zero of either sign is as close
 zero-is : (g : Bool) → sineAt g 0 ≡ fin g 0 (pos 0)
-unfolding sineAt asF32 sineFrom round mul sub add neg ofBits
+unfolding sineAt asF32 sineFrom timesOf lessOf fact round
 zero-is true = refl
 zero-is false = refl
 
@@ -137,12 +192,11 @@ module _ (t : Float) (f : T (fits binary32 t)) (u : UpTo26 t) where
 
   cs : (g : Bool) → Close (sineAt g r) (signed g (sinAt y))
   unfolding sineAt r y
-  cs false = close _ (sinAt (at .y)) (sin-meant (restOf n) (at .y) (at .lo) (at .hi) (at .part) (unfold y in yD))
-  cs true = turned (close _ (sinAt (at .y)) (sin-meant (restOf n) (at .y) (at .lo) (at .hi) (at .part) (unfold y in yD)))
+  cs g = close g (sineUnits (restOf n)) (sinAt (at .y)) (sin-le (restOf n) (squareOf (restOf n)) (at .part)) (sin-near (restOf n) (at .y) (at .lo) (at .hi) (at .part) (unfold y in yD))
 
   cc : Close (cosineAt r) (pos (cosAt y))
   unfolding cosineAt r y
-  cc = close _ (cosAt (at .y)) (cos-meant (restOf n) (at .y) (at .lo) (at .hi) (at .part) (unfold y in yD))
+  cc = close false (cosineUnits (restOf n)) (cosAt (at .y)) (cos-le (squareOf (restOf n))) (cos-near (restOf n) (at .y) (at .lo) (at .hi) (at .part) (unfold y in yD))
 
   abbrev side : Bool
   side = cond (at .b) (not s) s
