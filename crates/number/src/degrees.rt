@@ -24,7 +24,7 @@ fn in_turn(n: u64, k: u64) -> f32
 // y % 360.0 from 360 on. From 2^8 on an f32 is a whole number of 2^-15, from 2^48 on of 2^25, from 2^88 on of 2^65, so what
 // is cut is exact: y is that number of 32768ths of a degree, or 2^40 or 2^80 times it, and by a turn these powers leave
 // 8912896 and 1048576. An infinity leaves a NaN.
-fn rest(y: f32) -> f32
+fn far_rest(y: f32) -> f32
     requires { ⌜ lt y turn ≡ false ⌝ }
     ensures { λ r. ⌜ r ≡ rem binary32 y turn ⌝ }
 {
@@ -39,6 +39,23 @@ fn rest(y: f32) -> f32
         return in_turn(std::num::truncating_f32_to_u64(z), 1048576);
     }
     y - y
+}
+
+// The same, sooner for the angles of a pie.
+fn rest(y: f32) -> f32
+    requires { ⌜ lt y turn ≡ false ⌝ }
+    ensures { λ r. ⌜ r ≡ rem binary32 y turn ⌝ }
+{
+    if y < 720.0 {
+        return y - 360.0;
+    }
+    if y < 1080.0 {
+        return y - 720.0;
+    }
+    if y < 1440.0 {
+        return y - 1080.0;
+    }
+    far_rest(y)
 }
 
 // x.rem_euclid(360.0)

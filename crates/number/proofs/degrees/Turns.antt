@@ -3,12 +3,12 @@
 use mathlib.Core.Path.{_≡_, refl, sym, ap, _∙_, subst}
 use mathlib.Core.Bool.{Bool, true, false, not, cond, _&&_}
 use Prim.Native.Nat.{ℕ, zero, suc, _+_, _-_, _*_, _/_, _%_, _^_, _≤_, _<_, compare}
-use native.Mathlib.Nat.{mod-eq-of-lt}
+use native.Mathlib.Nat.{mod-eq-of-lt, add-mul-mod-self-right}
 use native.Mathlib.Omega.{arith}
 use lib.Dec.{T, ltb, eqb, ltb→lt, nltb→le, eqb→eq, lit≤}
 use lib.Count.{trailingZeros}
 use lib.IntN.{ℤ, pos}
-use lib.Ieee.{Float, nan, inf, fin, binary32, hid, top, up, down, minus, size, nearest, odd, units, round, neg, add, mul, rem, lt, eq, le, fits, toBits, ofBits}
+use lib.Ieee.{Float, nan, inf, fin, binary32, hid, top, up, down, minus, size, nearest, odd, units, round, neg, add, sub, sum, mul, rem, lt, eq, le, fits, toBits, ofBits}
 use lib.Ieee.Fits.{down-pos, round-is, round-fits, and-l, eq→eqb}
 use lib.Ieee.Bits.{ofBits-toBits}
 use lib.Ieee.Exact.{HasValue}
@@ -158,3 +158,38 @@ turned (inf true) a b = refl
 turned (inf false) a b = absurd a
 turned (fin false m e) a b = absurd (no-plus m e a)
 turned (fin true m e) a b = b
+
+-- ---- j turns taken off leave less than one
+pub taken-off : (j a b a' b' : ℕ) → a * 2 ^ b ≡ j * 360 → a' * 2 ^ b' ≡ suc j * 360 → (y : Float) → T (not (lt y (fin false a (pos b)))) → T (lt y (fin false a' (pos b'))) → sub binary32 y (fin false a (pos b)) ≡ rem binary32 y turn
+unfolding lt sub add neg sum rem
+taken-off j a b a' b' p q nan lo hi = absurd hi
+taken-off j a b a' b' p q (inf true) lo hi = absurd lo
+taken-off j a b a' b' p q (inf false) lo hi = absurd hi
+taken-off j a b a' b' p q (fin true m e) lo hi =
+    ap (λ (x : ℕ). round binary32 true x (down e * 1)) (gone (m * up e * 1) (a * 2 ^ b * down e) (down e) (down-pos e) (nltb→le 0 (m * up e * 1 + a * 2 ^ b * down e) lo))
+  where
+    gone : (n t d : ℕ) → 0 < d → n + t ≤ 0 → n + t ≡ n % (360 * d)
+    gone n t d D h = same ∙ sym (mod-eq-of-lt low)
+      where
+        same : n + t ≡ n
+        same = omega arith
+
+        low : n < 360 * d
+        low = omega arith
+taken-off j a b a' b' p q (fin false m e) lo hi =
+    let n = m * up e * 1 in
+    let d = down e in
+    let t = a * 2 ^ b * d in
+    let l : t ≤ n = nltb→le n t lo in
+    let h : n < a' * 2 ^ b' * d = ltb→lt n (a' * 2 ^ b' * d) hi in
+    ap (λ (z : Bool). cond z (round binary32 true (t - n) (d * 1)) (round binary32 false (n - t) (d * 1))) (le-ltb n t l)
+    ∙ ap (λ (x : ℕ). round binary32 false x (d * 1)) (sym (over n d t l (ap (λ (x : ℕ). x * d) p) (subst (λ (x : ℕ). n < x * d) q h)))
+  where
+    over : (n d t : ℕ) → t ≤ n → t ≡ j * 360 * d → n < suc j * 360 * d → n % (360 * d) ≡ n - t
+    over n d t l e h = ap (λ (x : ℕ). x % (360 * d)) (split n t d l e) ∙ add-mul-mod-self-right (n - t) j (360 * d) ∙ mod-eq-of-lt (less n t d l e h)
+      where
+        split : (n t d : ℕ) → t ≤ n → t ≡ j * 360 * d → n ≡ n - t + j * (360 * d)
+        split n t d l e = omega arith
+
+        less : (n t d : ℕ) → t ≤ n → t ≡ j * 360 * d → n < suc j * 360 * d → n - t < 360 * d
+        less n t d l e h = omega arith
