@@ -4,8 +4,8 @@
  * little-endian. Formats: 0 RGB332 (1 byte), 1 RGB565 (2), 2 RGB8, 3 ARGB, 4 ABGR (4 each).
  *
  * Each call returns 0, or 1 FORMAT (above 4), 2 SIZE (a side above 32,767), 3 LENGTH (data_len is not the exact byte
- * size), 4 SOURCE (tuyrashka_draw: 1, 2 or 3 holds of the source), 5 ANGLE (pies: an angle outside -720..720), 6 SHAPE
- * (pies and round rectangles: x or y outside -32,768..32,767, or w or h above 32,767), the lowest that holds; the bytes
+ * size), 4 SOURCE (tuyrashka_draw: 1, 2 or 3 holds of the source), 5 ANGLE (arcs and pies: an angle outside -720..720), 6 SHAPE
+ * (arcs, pies and round rectangles: x or y outside -32,768..32,767, or w or h above 32,767), the lowest that holds; the bytes
  * then stay as they were and *count is 0. A colour is a<<24 | r<<16 | g<<8 | b.
  * No pointer is null, also where data_len is 0, and what they point to does not overlap.
  */
