@@ -131,7 +131,7 @@ module _ (v : Canvas) (x y : ℕ) (o : On v x y) where
       ∙ ap (λ (w : ℕ). cond (veiled v ks x y) (solid w) w) (by-call a xo k b s ch)
       ∙ by-hit (struck (landing v k (visible (dots v k))) x y) (veiled v ks x y) (word b)
 
--- accepted calls, made and made again in any order: the word at every pixel
+-- on a canvas that is not refused, calls, accepted or refused, made and made again in any order: the word at every pixel
 pub colors-back : (v : Canvas) (ks ls : List Call) (b : List ℕ) → v .xor ≡ true → keepsAlpha (form v) ≡ true → Screen v b → verdict v (length b) ≡ Sound → Fine ks → List·Permᴰ ks ls
     → (x y : ℕ) → On v x y → loadAt v (after v (ks ++ ls) b) x y ≡ cond (veiled v ks x y) (solid (loadAt v b x y)) (loadAt v b x y)
 colors-back v ks ls b xo a s e f p x y o =

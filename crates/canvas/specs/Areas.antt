@@ -1,4 +1,5 @@
--- Area calls: they ignore XOR, and are no drawings that XOR takes away.
+-- Area calls: "`copy_area` and `invert_rect` ignore XOR.", and are no drawings that XOR takes away.
+-- "Both clear the top byte of Rgb8 pixels they write", since they go through the colour.
 use mathlib.Core.List.{List}
 use Prim.Native.Nat.{ℕ}
 use lib.IntN.{ℤ, natAbs}

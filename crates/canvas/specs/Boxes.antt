@@ -48,7 +48,7 @@ shown d s len m n = select (λ i. both (within d len (pos i)) (within (pos 0) m 
 abbrev pub below : ℤ → ℕ → Point → List Point
 below a n p = cond (ltZ a (pos n)) (p ∷ []) []
 
--- The top row at any y and the bottom row only if below the height, then the left column at any x and the right column
+-- "each border point is plotted once": the top row at any y and the bottom row only if below the height, then the left column at any x and the right column
 -- only if below the width.
 unfoldable pub border : Canvas → ℤ → ℤ → ℕ → ℕ → List Point
 border v x y w h =

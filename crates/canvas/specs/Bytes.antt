@@ -6,7 +6,7 @@ use lib.ListN.{getD, set}
 use Rattle.words.specs.Format.{Format, formatOf, bytesPerPixel}
 use Rattle.canvas.specs.declared.Canvas.{Canvas}
 
--- A cell holds one digit of a word: here a whole byte, at its place.
+-- A cell holds one digit of a word: today always a whole byte, at its place. Later formats have other cells.
 pub data Cell : Type 0 where
   byte : ℕ → Cell
 

@@ -43,7 +43,7 @@ clipOf (drawRoundRect x y w h aw ah color clip) = clip
 clipOf (fillRoundRect x y w h aw ah color clip) = clip
 clipOf (draw dx dy w h source image sx sy clip) = clip
 
--- Its faults beside those of the canvas.
+-- Its faults beside those of the canvas: "4 SOURCE", "5 ANGLE" and "6 SHAPE", of the calls that they are for.
 abbrev pub faultOf : Call → Verdict
 faultOf (putPixel x y color clip) = Sound
 faultOf (drawLine x1 y1 x2 y2 color clip) = Sound
@@ -108,7 +108,7 @@ countOf (Done t) = t .landed
 abbrev pub leaves : Drawn → List ℕ → Outcome
 leaves d b = outcome (statusOf d) (countOf d) b
 
--- "0 accepted: result, count"; a refusal: "count 0, bytes as before"
+-- "0 | accepted | result, count"; a refusal: "count 0, bytes as before"
 abbrev pub ruled : Verdict → ℕ → List ℕ → List ℕ → Outcome
 ruled Sound n painted b = outcome 0 n painted
 ruled (Faulty r) n painted b = outcome (number r) 0 b

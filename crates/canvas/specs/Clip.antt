@@ -1,9 +1,8 @@
 -- Spans and clips, in whole numbers without wrap.
-use mathlib.Core.Bool.{Bool, true, false}
-use Prim.Native.Nat.{ℕ, _+_, _-_}
+use mathlib.Core.Bool.{Bool, true, false, cond}
+use Prim.Native.Nat.{ℕ}
 use lib.IntN.{ℤ, pos, negsuc, _+ℤ_, _-ℤ_}
 use lib.Signed.{leZ, ltZ}
-use mathlib.Core.Bool.{cond}
 use Rattle.canvas.specs.declared.Clip.{Clip}
 
 abbrev pub both : Bool → Bool → Bool

@@ -18,7 +18,7 @@ sieve t xs ys = each (λ j. each (λ i. cond (t i j) (at (pos i) (pos j) ∷ [])
 unfoldable pub pie : Canvas → ℤ → ℤ → ℕ → ℕ → ℤ → ℤ → List Point
 pie v x y w h start arc = cond (eqb w 0 || eqb h 0) [] (sieve (inPie x y w h start arc) (side x w (v .width)) (side y h (v .height)))
 
--- "arc size 0 gives the plain rectangle"; else "The fill takes points whose offset from the nearest corner centre .. meets the
+-- "With w or h 0 nothing is drawn."; "arc size 0 gives the plain rectangle"; else "The fill takes points whose offset from the nearest corner centre .. meets the
 -- pie's ellipse test"
 unfoldable pub roundFill : Canvas → ℤ → ℤ → ℕ → ℕ → ℕ → ℕ → List Point
 roundFill v x y w h aw ah =

@@ -23,15 +23,15 @@ number Source = 4
 number Angle = 5
 number Shape = 6
 
--- "1 FORMAT: format above 4"
+-- "1 FORMAT | format above 4"
 unfoldable pub formatFault : Canvas → Verdict
 formatFault v = cond (ltb 4 (v .format)) (Faulty Format) Sound
 
--- "2 SIZE: width or height above 32,767"
+-- "2 SIZE | width or height above 32,767"
 unfoldable pub sizeFault : Canvas → Verdict
 sizeFault v = cond (ltb 32767 (v .width)) (Faulty Size) (cond (ltb 32767 (v .height)) (Faulty Size) Sound)
 
--- "3 LENGTH: lent length is not the exact byte size"
+-- "3 LENGTH | lent length is not the exact byte size"
 unfoldable pub lengthFault : Canvas → ℕ → Verdict
 lengthFault v n = cond (eqb n (extent v)) Sound (Faulty Length)
 
@@ -43,7 +43,7 @@ orElse (Faulty r) d = Faulty r
 unfoldable pub verdict : Canvas → ℕ → Verdict
 verdict v n = orElse (formatFault v) (orElse (sizeFault v) (lengthFault v n))
 
--- "4 SOURCE: `draw`: the source fails any of 1 to 3"
+-- "4 SOURCE | `draw`: the source fails any of 1 to 3"
 abbrev pub asSource : Verdict → Verdict
 asSource Sound = Sound
 asSource (Faulty r) = Faulty Source
@@ -52,11 +52,11 @@ asSource (Faulty r) = Faulty Source
 abbrev pub outside : ℤ → ℤ → ℤ → Bool
 outside low high a = ltZ a low || ltZ high a
 
--- "5 ANGLE: arc or pie: start or arc angle outside -720..720"
+-- "5 ANGLE | arc or pie: start or arc angle outside -720..720"
 unfoldable pub angleFault : ℤ → ℤ → Verdict
 angleFault start arc = cond (outside (negsuc 719) (pos 720) start) (Faulty Angle) (cond (outside (negsuc 719) (pos 720) arc) (Faulty Angle) Sound)
 
--- "6 SHAPE: arcs, pies, round rectangles: x or y outside -32,768..32,767, or w or h above 32,767"
+-- "6 SHAPE | arcs, pies, round rectangles: x or y outside -32,768..32,767, or w or h above 32,767"
 unfoldable pub shapeFault : ℤ → ℤ → ℕ → ℕ → Verdict
 shapeFault x y w h =
     cond (outside (negsuc 32767) (pos 32767) x) (Faulty Shape) (cond (outside (negsuc 32767) (pos 32767) y) (Faulty Shape)
@@ -65,14 +65,14 @@ shapeFault x y w h =
 unfoldable pub arcFault : ℤ → ℤ → ℕ → ℕ → ℤ → ℤ → Verdict
 arcFault x y w h start arc = orElse (angleFault start arc) (shapeFault x y w h)
 
--- What an inner function may count on: a canvas that is not refused.
+-- What an inner function may count on. Of a canvas that is not refused:
 pub record Sized (v : Canvas) (b : List ℕ) : Type 0 where
   pub known : v .format ≤ 4
   pub wide : v .width ≤ 32767
   pub high : v .height ≤ 32767
   pub long : length b ≡ extent v
 
--- A box that SHAPE lets pass.
+-- Of a box that SHAPE lets pass; it takes x and y of 32,768 in as well.
 pub record Shaped (x y : ℤ) (w h : ℕ) : Type 0 where
   pub left : natAbs x ≤ 32768
   pub top : natAbs y ≤ 32768

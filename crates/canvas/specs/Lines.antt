@@ -48,5 +48,6 @@ abbrev pub between : Clipped → List Point
 between Nothing = []
 between (Left s) = bresenham s
 
+-- "A segment .. is kept. Any other is cut .. Then Bresenham as in the Rust"; of nothing left there are no points.
 unfoldable pub line : Canvas → ℤ → ℤ → ℤ → ℤ → List Point
 line v x1 y1 x2 y2 = between (clipSegment x1 y1 x2 y2 (v .width) (v .height))

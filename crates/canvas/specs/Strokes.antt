@@ -32,13 +32,13 @@ stroke v o start sweep = let steps = stepsOf o sweep (v .width) (v .height) in s
 unfoldable pub arc : Canvas → ℤ → ℤ → ℕ → ℕ → ℤ → ℤ → List Point
 arc v x y w h start sweep = cond (eqb w 0 || eqb h 0) [] (stroke v (ovalOf x y w h) (radians start) (radians sweep))
 
--- "The outline plots the top and bottom rows from left + round(rx) to right - round(rx), the two sides likewise by ry"
+-- "The outline plots the top and bottom rows from left + round(rx) to right - round(rx), the two sides likewise by ry": ix and iy are round(rx) and round(ry).
 unfoldable pub edges : Canvas → ℤ → ℤ → ℕ → ℕ → ℕ → ℕ → List Point
-edges v x y w h rx ry =
+edges v x y w h ix iy =
     let right = x +ℤ pos (w - 1) in
     let bottom = y +ℤ pos (h - 1) in
-    fill v (x +ℤ pos rx) y (w - 2 * rx) 1 ++ (fill v (x +ℤ pos rx) bottom (w - 2 * rx) 1
-    ++ (fill v x (y +ℤ pos ry) 1 (h - 2 * ry) ++ fill v right (y +ℤ pos ry) 1 (h - 2 * ry)))
+    fill v (x +ℤ pos ix) y (w - 2 * ix) 1 ++ (fill v (x +ℤ pos ix) bottom (w - 2 * ix) 1
+    ++ (fill v x (y +ℤ pos iy) 1 (h - 2 * iy) ++ fill v right (y +ℤ pos iy) 1 (h - 2 * iy)))
 
 -- "then four strokes of 90 degrees from 0, 90, 180 and 270"
 unfoldable pub quarters : Canvas → Corners → List Point
@@ -47,7 +47,7 @@ quarters v c =
     stroke v (cornerOf c true false) (radians (pos 0)) quarter ++ (stroke v (cornerOf c false false) (radians (pos 90)) quarter
     ++ (stroke v (cornerOf c false true) (radians (pos 180)) quarter ++ stroke v (cornerOf c true true) (radians (pos 270)) quarter))
 
--- "arc size 0 gives the plain rectangle"
+-- "With w or h 0 nothing is drawn."; "arc size 0 gives the plain rectangle"
 unfoldable pub roundOutline : Canvas → ℤ → ℤ → ℕ → ℕ → ℕ → ℕ → List Point
 roundOutline v x y w h aw ah =
     let rx = radiusOf aw w in

@@ -1,1 +1,2 @@
+pub mod Cheats
 pub mod Screens
