@@ -84,7 +84,7 @@ same-pixel (pixel.Of c) pixel.Nothing e f = absurd (let z : _≡_ {A = ℕ} 0 1 
 same-pixel (pixel.Of c) (pixel.Of d) e f = cc
 
 -- what leaves the same outcome is the same answer and the same bytes
-leaves-same : (d e : Drawn) (b b′ : List ℕ) → leaves d b ≡ leaves e b′ → (d ≡ e) × (b ≡ b′)
+pub leaves-same : (d e : Drawn) (b b′ : List ℕ) → leaves d b ≡ leaves e b′ → (d ≡ e) × (b ≡ b′)
 leaves-same d e b b′ h =
     (same-drawn d e (ap (λ (o : Outcome). o .status) h) (ap (λ (o : Outcome). o .count) h), ap (λ (o : Outcome). o .bytes) h)
 

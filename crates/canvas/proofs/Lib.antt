@@ -1,3 +1,4 @@
 pub mod Determined
 pub mod Reverse
+pub mod Runs
 pub mod Veils

@@ -200,7 +200,7 @@ after-sound v (k ∷ ks) b s e =
     let e′ : verdict v (length (paint v hs b)) ≡ Sound = rw (paint-length v hs b) e in
     ap (after v ks) (call-paints v k b e) ∙ after-sound v ks (paint v hs b) (paint-screen hs s) e′ ∙ sym (paint-append v hs (all-hits v ks) b)
 
-after-faulty : (v : Canvas) (ks : List Call) (b : List ℕ) (r : Refusal) → verdict v (length b) ≡ Faulty r → after v ks b ≡ b
+pub after-faulty : (v : Canvas) (ks : List Call) (b : List ℕ) (r : Refusal) → verdict v (length b) ≡ Faulty r → after v ks b ≡ b
 unfolding after drawing orElse
 after-faulty v [] b r e = refl
 after-faulty v (k ∷ ks) b r e = let q : call v k b .bytes ≡ b = rw e refl in ap (after v ks) q ∙ after-faulty v ks b r e
