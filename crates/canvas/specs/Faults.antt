@@ -1,5 +1,5 @@
 -- Which canvases, angles and boxes are refused, and by which number.
-use mathlib.Core.Bool.{Bool, cond, _||_}
+use mathlib.Core.Bool.{Bool, cond, not, _||_}
 use mathlib.Core.List.{List}
 use mathlib.Core.Path.{_≡_}
 use Prim.Native.Nat.{ℕ, _≤_}
@@ -23,17 +23,21 @@ number Source = 4
 number Angle = 5
 number Shape = 6
 
+-- The fault, where the test holds.
+abbrev pub fault : Bool → Refusal → Verdict
+fault t r = cond t (Faulty r) Sound
+
 -- "1 FORMAT | format above 4"
 unfoldable pub formatFault : Canvas → Verdict
-formatFault v = cond (ltb 4 (v .format)) (Faulty Format) Sound
+formatFault v = fault (ltb 4 (v .format)) Format
 
 -- "2 SIZE | width or height above 32,767"
 unfoldable pub sizeFault : Canvas → Verdict
-sizeFault v = cond (ltb 32767 (v .width)) (Faulty Size) (cond (ltb 32767 (v .height)) (Faulty Size) Sound)
+sizeFault v = fault (ltb 32767 (v .width) || ltb 32767 (v .height)) Size
 
 -- "3 LENGTH | lent length is not the exact byte size"
 unfoldable pub lengthFault : Canvas → ℕ → Verdict
-lengthFault v n = cond (eqb n (extent v)) Sound (Faulty Length)
+lengthFault v n = fault (not (eqb n (extent v))) Length
 
 -- "Where several hold, the lowest .. is given"
 unfoldable pub orElse : Verdict → Verdict → Verdict
@@ -54,13 +58,12 @@ outside low high a = ltZ a low || ltZ high a
 
 -- "5 ANGLE | arc or pie: start or arc angle outside -720..720"
 unfoldable pub angleFault : ℤ → ℤ → Verdict
-angleFault start arc = cond (outside (negsuc 719) (pos 720) start) (Faulty Angle) (cond (outside (negsuc 719) (pos 720) arc) (Faulty Angle) Sound)
+angleFault start arc = fault (outside (negsuc 719) (pos 720) start || outside (negsuc 719) (pos 720) arc) Angle
 
 -- "6 SHAPE | arcs, pies, round rectangles: x or y outside -32,768..32,767, or w or h above 32,767"
 unfoldable pub shapeFault : ℤ → ℤ → ℕ → ℕ → Verdict
 shapeFault x y w h =
-    cond (outside (negsuc 32767) (pos 32767) x) (Faulty Shape) (cond (outside (negsuc 32767) (pos 32767) y) (Faulty Shape)
-    (cond (ltb 32767 w) (Faulty Shape) (cond (ltb 32767 h) (Faulty Shape) Sound)))
+    fault (outside (negsuc 32767) (pos 32767) x || (outside (negsuc 32767) (pos 32767) y || (ltb 32767 w || ltb 32767 h))) Shape
 
 unfoldable pub arcFault : ℤ → ℤ → ℕ → ℕ → ℤ → ℤ → Verdict
 arcFault x y w h start arc = orElse (angleFault start arc) (shapeFault x y w h)

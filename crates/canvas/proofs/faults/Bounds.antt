@@ -1,6 +1,6 @@
 -- The bounds of angles and of boxes: as the code asks them, and what they give.
 use mathlib.Core.Path.{_≡_, refl, sym, _∙_}
-use mathlib.Core.Bool.{Bool, true, false, cond, _||_}
+use mathlib.Core.Bool.{Bool, true, false, _||_}
 use Prim.Native.Nat.{ℕ, suc, _≤_}
 use native.Mathlib.Omega.{arith}
 use borrow.Author.Tests.{ltb-false}
@@ -11,9 +11,9 @@ use mir.Syntax.{w32}
 use mir.Val.{SFits, toZ, ofZ}
 use mir.ValLaws.{toZ-ofZ}
 use Rattle.canvas.specs.declared.Refusal.the-variants.{Shape}
-use Rattle.canvas.specs.declared.faults.Verdict.the-variants.{Sound, Faulty}
+use Rattle.canvas.specs.declared.faults.Verdict.the-variants.{Sound}
 use Rattle.canvas.specs.Faults.{outside, angleFault, shapeFault, arcFault, Shaped}
-use Rattle.canvas.proofs.faults.Verdicts.{passes, both-sound}
+use Rattle.canvas.proofs.faults.Verdicts.{passes, neither, both-sound}
 
 -- signed arguments reach a test as `toZ w (ofZ w x)`
 module _ (a low high : ℤ) (sa : SFits w32 a) (sl : SFits w32 low) (sh : SFits w32 high) where
@@ -40,11 +40,10 @@ in-bounds (negsuc n) e = go (ltb 32767 n) refl e
 pub shape-known : (x y : ℤ) (w h : ℕ) → shapeFault x y w h ≡ Sound → Shaped x y w h
 unfolding shapeFault
 shape-known x y w h e =
-    let p : (outside (negsuc 32767) (pos 32767) x ≡ false) × (_ ≡ Sound) = passes (outside (negsuc 32767) (pos 32767) x) Shape _ e in
-    let q : (outside (negsuc 32767) (pos 32767) y ≡ false) × (_ ≡ Sound) = passes (outside (negsuc 32767) (pos 32767) y) Shape _ (p .1) in
-    let r : (ltb 32767 w ≡ false) × (cond (ltb 32767 h) (Faulty Shape) Sound ≡ Sound) = passes (ltb 32767 w) Shape _ (q .1) in
-    let s : (ltb 32767 h ≡ false) × (Sound ≡ Sound) = passes (ltb 32767 h) Shape Sound (r .1) in
-    record { left = in-bounds x (p .0); top = in-bounds y (q .0); wide = ltb-false _ _ (r .0); high = ltb-false _ _ (s .0) }
+    let p : (outside (negsuc 32767) (pos 32767) x ≡ false) × _ = neither (outside (negsuc 32767) (pos 32767) x) _ (passes _ Shape e) in
+    let q : (outside (negsuc 32767) (pos 32767) y ≡ false) × _ = neither (outside (negsuc 32767) (pos 32767) y) _ (p .1) in
+    let r : (ltb 32767 w ≡ false) × (ltb 32767 h ≡ false) = neither (ltb 32767 w) (ltb 32767 h) (q .1) in
+    record { left = in-bounds x (p .0); top = in-bounds y (q .0); wide = ltb-false _ _ (r .0); high = ltb-false _ _ (r .1) }
 
 pub arc-known : (x y : ℤ) (w h : ℕ) (start arc : ℤ) → arcFault x y w h start arc ≡ Sound → Shaped x y w h
 unfolding arcFault
