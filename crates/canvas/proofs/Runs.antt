@@ -220,7 +220,7 @@ module _ {v : Canvas} {ks ls : List Call} {b b′ b″ : List ℕ} {ds es : List
       ap (λ (c : List ℕ). loadAt v c x y) (run-is (run-append p q))
       ∙ veils.colors-back v ks ls b xo a (record { long = sized v b e .long; bytes = o }) e (fine p) s x y on
 
-  -- and its colour: the first one, with alpha 255 exactly where a point of an alpha other than 0 landed
+  -- and its colour: the first one, but that alpha is 255 where a point of an alpha other than 0 landed
   pub colors-back : v .xor ≡ true → keepsAlpha (form v) ≡ true → Bytes b → verdict v (length b) ≡ Sound → List·Permᴰ ks ls → Run v ks b ds b′ → Run v ls b′ es b″
       → (x y : ℕ) → On v x y → seenAt v b″ x y ≡ cond (veiled v ks x y) (opaque (seenAt v b x y)) (seenAt v b x y)
   colors-back xo a o e s p q x y on = ap (toColor (form v)) (words-back xo a o e s p q x y on) ∙ go (veiled v ks x y)
