@@ -2,8 +2,7 @@
 use mathlib.Core.Path.{_≡_, refl}
 use Prim.Native.Nat.{ℕ}
 use lib.IntN.{ℤ}
-use Rattle.angle.specs.Pie.{offset}
-use Rattle.curves.specs.Ovals.{ovalOf}
+use Rattle.curves.specs.Ovals.{offset, ovalOf}
 use Rattle.curves.specs.Pies.{pieOf, pieRowOf, acrossOf, inPieAt, inPie}
 
 pub in-pie-is : (x y : ℤ) (w h : ℕ) (start sweep : ℤ) (i j : ℕ) → let p = pieOf x y w h start sweep in inPieAt p (pieRowOf p j) i ≡ inPie x y w h start sweep i j

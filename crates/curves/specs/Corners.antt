@@ -1,25 +1,21 @@
 -- Round corners: radii, the four corners' ovals, and which points of its box a fill takes. Definitions only.
 use Prim.Native.Nat.{ℕ, _-_, min}
-use mathlib.Core.Bool.{Bool, false, cond}
-use lib.IntN.{ℤ, pos, negsuc, _+ℤ_}
-use lib.Ieee.{Float, fin, binary32, ofInt, add, sub, mul, div, lt, le}
-use Rattle.number.specs.Size.{maxOf}
-use Rattle.number.specs.Whole.{roundAs}
+use mathlib.Core.Bool.{Bool, cond}
+use lib.IntN.{ℤ, pos, _+ℤ_}
+use lib.Ieee.{Float, binary32, ofInt, add, sub, mul, div, lt, le}
+use Rattle.number.specs.Size.{one, maxOf}
+use Rattle.number.specs.Whole.{roundAs, atLeast0}
 use Rattle.curves.specs.declared.ovals.Oval.{Oval}
 use Rattle.curves.specs.declared.corners.Corners.{Corners}
-use Rattle.curves.specs.Ovals.{half, one}
+use Rattle.curves.specs.Ovals.{half, two}
 
 -- "radii rx, ry are half the smaller of arc size and box, at least 0.5"
 unfoldable pub radiusOf : ℕ → ℕ → Float
-radiusOf arc side = maxOf (div binary32 (ofInt binary32 (pos (min arc side))) (fin false 1 (pos 1))) half
-
-abbrev pub sizeOf : ℤ → ℕ
-sizeOf (pos n) = n
-sizeOf (negsuc n) = 0
+radiusOf arc side = maxOf (div binary32 (ofInt binary32 (pos (min arc side))) two) half
 
 -- "round(rx)", which is not negative.
 unfoldable pub insetOf : Float → ℕ
-insetOf r = sizeOf (roundAs 31 r)
+insetOf r = atLeast0 (roundAs 31 r)
 
 -- "centred rx, ry in from their corners": the first and last columns and rows are given.
 unfoldable pub cornersOf : ℤ → ℤ → ℤ → ℤ → Float → Float → Corners
