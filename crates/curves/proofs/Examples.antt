@@ -11,7 +11,7 @@ use Rattle.number.specs.Whole.{roundSize, roundAs, ceilSize}
 use Rattle.curves.specs.Ovals.{halfAxis, centre, offset, ovalOf}
 use Rattle.curves.specs.Strokes.{strokeRadius, stepsOf}
 use Rattle.curves.specs.Pies.{sweepOf, inSweep, inPie}
-use Rattle.curves.specs.Corners.{radiusOf, insetOf, cornersOf, nearestCentre, partOf, cornerRowOf, inCornersAt, inRound}
+use Rattle.curves.specs.Corners.{radiusOf, insetOf, nearestCentre, inRound}
 
 abbrev full : ℕ → ℕ → ℕ → ℕ → Bool
 full w h i j = inPie (pos 0) (pos 0) w h (pos 0) (pos 360) i j
@@ -56,10 +56,10 @@ abbrev rounded : ℕ → ℕ → ℕ → ℕ → Bool
 rounded s a i j = inRound (pos 0) (pos 0) s s a a i j
 
 empty : (rounded 2 1 0 0 ∷ rounded 2 1 1 0 ∷ rounded 2 1 0 1 ∷ rounded 2 1 1 1 ∷ []) ≡ false ∷ false ∷ false ∷ false ∷ []
-unfolding inRound inCornersAt cornerRowOf partOf nearestCentre cornersOf radiusOf maxOf isNan ofInt add sub mul div lt le
+unfolding inRound nearestCentre radiusOf maxOf isNan ofInt add sub mul div lt le
 empty = refl
 
 middle : (rounded 3 3 0 0 ∷ rounded 3 3 1 0 ∷ rounded 3 3 2 0 ∷ rounded 3 3 0 1 ∷ rounded 3 3 1 1 ∷ rounded 3 3 2 1 ∷ rounded 3 3 0 2 ∷ rounded 3 3 1 2 ∷ rounded 3 3 2 2 ∷ [])
     ≡ false ∷ false ∷ false ∷ false ∷ true ∷ false ∷ false ∷ false ∷ false ∷ []
-unfolding inRound inCornersAt cornerRowOf partOf nearestCentre cornersOf radiusOf maxOf isNan ofInt add sub mul div lt le
+unfolding inRound nearestCentre radiusOf maxOf isNan ofInt add sub mul div lt le
 middle = refl
