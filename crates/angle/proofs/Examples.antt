@@ -5,16 +5,11 @@ use mathlib.Core.Bool.{false}
 use Prim.Native.Nat.{_+_, _/_}
 use lib.IntN.{pos, negsuc, negℤ, pow, one}
 use lib.Ieee.{fin, binary32, ofBits, toBits, round, neg, add, le, lt, eq}
-use Rattle.number.specs.Degrees.{degree}
 use Rattle.number.specs.Size.{plusZero, signOf}
 use Rattle.angle.specs.Meaning.{H, fact, nearestK, rest, whole, coef, term, terms, mod4, placed, sine, cosine}
 use Rattle.angle.specs.Nodes.{nodes}
 use Rattle.angle.specs.Sine.{unitsOf, kOf, shortOf, restOf, timesOf, lessOf, sineFrom, cosineFrom, asF32, sineAt, cosineAt, sineOf, cosineOf}
 use Rattle.angle.specs.Arctangent.{eighth, turn, halvesOf, degreesOf, arctangentOf}
-
-constant : degree ≡ ofBits binary32 0x3C8E_FA35
-unfolding ofBits
-constant = refl
 
 -- ---- k and the rest
 tie-above : nearestK (pos (H / 2)) ≡ pos 0

@@ -8,6 +8,5 @@ pub mod Rounded
 pub mod Sum
 pub mod AtMost
 pub mod Stroke
-pub mod Pie
 pub mod Examples
 pub mod Determined

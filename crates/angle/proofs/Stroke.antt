@@ -7,7 +7,7 @@ use native.Mathlib.Omega.{arith}
 use lib.Dec.{lit≤}
 use lib.Pow.{pow-pos}
 use lib.IntN.{ℤ, pos, natAbs}
-use lib.Ieee.{Float, nan, inf, fin, binary32, up, down, mul, div, ofInt, unlike}
+use lib.Ieee.{Float, nan, inf, fin, binary32, up, down, ofBits, mul, div, ofInt, unlike}
 use lib.Ieee.Fits.{down-pos}
 use lib.Ieee.Back.{round-whole}
 use mathlib.Core.Bool.{false}
@@ -18,7 +18,7 @@ use Rattle.angle.proofs.AtMost.{AtMost, round-most, int-most, mul-most,
 use Rattle.angle.proofs.sine.Units.{kept, size-is}
 
 rad-most : (x : Float) → AtMost x 720 → AtMost (mul binary32 x degree) 13
-unfolding mul
+unfolding mul ofBits
 rad-most nan h = absurd h
 rad-most (inf s) h = absurd h
 rad-most (fin s m e) h = round-most (unlike s false) (m * up e * 9370165) (down e * 2 ^ 29) 13 (mul-pos (down-pos e) (pow-pos 29)) (go (m * up e) (down e) h) (lit≤ tt)

@@ -2,7 +2,7 @@
 -- degree; and what 01 asks of it. Definitions only.
 use mathlib.Core.Path.{_≡_}
 use mathlib.Core.Bool.{Bool, true, false, cond, _&&_}
-use Prim.Native.Nat.{ℕ, _+_, _*_, _-_, _/_, _%_, min}
+use Prim.Native.Nat.{ℕ, _+_, _*_, _-_, _/_, _%_, _<_, min}
 use lib.Dec.{T, leb, eqb}
 use lib.IntN.{pos}
 use lib.ListN.{getD}
@@ -45,6 +45,16 @@ isHalves nan = false
 isHalves (inf s) = false
 isHalves (fin s m e) = eqb (m * up e * 2 % down e) 0 && leb (m * up e * 2 / down e) 32766
 
+-- "Arctangent of (up, right), multiples of a half up to 16,383 in size"
+pub record Halves (y x : Float) : Type 0 where
+  pub up : T (isHalves y)
+  pub right : T (isHalves x)
+
+-- .. ", not both zero"
+pub record Domain (y x : Float) : Type 0 where
+  pub halves : Halves y x
+  pub some : 0 < halvesOf y + halvesOf x
+
 -- What is asked of the answer a, for up y and right x.
 pub record Arctangent (y x a : Float) : Type 0 where
   -- "answers f32 degrees in -180..180"
@@ -56,6 +66,6 @@ pub record Arctangent (y x a : Float) : Type 0 where
   pub axis-right : halvesOf y ≡ 0 → lt x plusZero ≡ false → a ≡ fin (signOf y) 0 (pos 0)
   pub axis-left : halvesOf y ≡ 0 → lt x plusZero ≡ true → a ≡ fin (signOf y) 45 (pos 2)
   pub axis-up : halvesOf x ≡ 0 → a ≡ fin (signOf y) 45 (pos 1)
-  -- 45 and 135 with up's sign on the diagonals.
+  -- More than 01 asks: 45 and 135 with up's sign on the diagonals.
   pub diagonal-right : halvesOf y ≡ halvesOf x → lt x plusZero ≡ false → a ≡ fin (signOf y) 45 (pos 0)
   pub diagonal-left : halvesOf y ≡ halvesOf x → lt x plusZero ≡ true → a ≡ fin (signOf y) 135 (pos 0)

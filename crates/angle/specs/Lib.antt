@@ -3,4 +3,3 @@ pub mod Sine
 pub mod Nodes
 pub mod Arctangent
 pub mod Stroke
-pub mod Pie

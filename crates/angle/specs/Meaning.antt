@@ -27,6 +27,7 @@ unfoldable pub H : ℕ
 H = 0x1921FB54442D1846 * 2 ^ 89
 
 -- "k the whole number with t - kH nearest zero (the lower if two)": (2 * t + H - 1) / (2 * H), rounded down.
+-- `nearest` (proofs/Nearest): the rest lies above minus half of H, and at half of H at most.
 unfoldable pub nearestK : ℤ → ℤ
 nearestK t = shrZ (t +ℤ t +ℤ pos (H - 1)) (2 * H)
 

@@ -3,7 +3,7 @@ ghost use mathlib.Core.Path.{_≡_};
 ghost use Prim.Native.Nat.{_≤_};
 ghost use Rattle.angle.specs.Nodes.{nodes};
 ghost use lib.Dec.{T};
-ghost use Rattle.angle.specs.Arctangent.{eighth, turn, halvesOf, isHalves, degreesOf, arctangentOf};
+ghost use Rattle.angle.specs.Arctangent.{eighth, turn, halvesOf, isHalves, Halves, degreesOf, arctangentOf};
 
 // The angle whose tangent is small / big.
 fn eighth_of(t: &[usize; 513], small: usize, big: usize) -> usize
@@ -79,7 +79,7 @@ pub fn arctangent(t: &[usize; 513], up: f32, right: f32) -> f32
 
 // The same answer, sooner, where both are multiples of a half up to 16,383 in size, as a pie's are.
 pub fn arctangent_of_halves(t: &[usize; 513], up: f32, right: f32) -> f32
-    requires { ⌜ (now t ≡ nodes) × T (isHalves up) × T (isHalves right) ⌝ }
+    requires { ⌜ (now t ≡ nodes) × Halves up right ⌝ }
     ensures { λ r. ⌜ r ≡ arctangentOf up right ⌝ }
 {
     let u = halves_in(up);

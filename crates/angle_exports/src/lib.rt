@@ -5,8 +5,7 @@ ghost use Rattle.number.specs.Size.{absOf, maxOf, signOf};
 ghost use Rattle.number.specs.Whole.{asU8, ceilSize, roundAs};
 ghost use Rattle.angle.specs.Nodes.{nodes};
 ghost use Rattle.angle.specs.Sine.{sineOf, cosineOf};
-ghost use lib.Dec.{T};
-ghost use Rattle.angle.specs.Arctangent.{isHalves, arctangentOf};
+ghost use Rattle.angle.specs.Arctangent.{Halves, arctangentOf};
 
 #[no_mangle]
 pub extern "C" fn number_radians(x: f32) -> f32
@@ -91,7 +90,7 @@ pub extern "C" fn angle_arctangent(t: &[usize; 513], up: f32, right: f32) -> f32
 
 #[no_mangle]
 pub extern "C" fn angle_arctangent_of_halves(t: &[usize; 513], up: f32, right: f32) -> f32
-    requires { ⌜ (now t ≡ nodes) × T (isHalves up) × T (isHalves right) ⌝ }
+    requires { ⌜ (now t ≡ nodes) × Halves up right ⌝ }
     ensures { λ r. ⌜ r ≡ arctangentOf up right ⌝ }
 {
     angle::arctangent::arctangent_of_halves(t, up, right)

@@ -13,11 +13,11 @@ use lib.Signed.{leZ, ltZ}
 use lib.Ieee.{Float, nan, inf, fin, binary32, up, down, round, neg, add, mul, sum, lt, unlike}
 use lib.Ieee.Fits.{down-pos, and-l}
 use lib.Ieee.Exact.{HasValue, round-exact}
-use Rattle.angle.specs.Arctangent.{isHalves, halvesOf}
-use Rattle.angle.specs.Pie.{offset}
-use Rattle.angle.proofs.Pie.{pie-right, pie-up}
-use Rattle.curves.specs.Ovals.{one, ovalOf}
-use Rattle.curves.specs.Pies.{pieOf, pieRowOf, acrossOf, Apt, Inside, Domain}
+use Rattle.number.specs.Size.{one}
+use Rattle.angle.specs.Arctangent.{isHalves, halvesOf, Halves, Domain}
+use Rattle.curves.specs.Ovals.{offset, ovalOf}
+use Rattle.curves.specs.Pies.{pieOf, pieRowOf, acrossOf, Inside}
+use Rattle.curves.proofs.Offsets.{pie-right, pie-up}
 
 -- ---- a point of the box is the i-th of its row, or of its column
 pub record Placed (x : ℤ) (w p : ℕ) : Type 0 where
@@ -53,7 +53,7 @@ module _ (x : ℤ) (w p : ℕ) (h : Inside x w p) where
   above = let k = placed x w p (h .from) (h .to) in pie-up (pos p) x w (k .index) (h .place) (h .corner) (h .side) (k .below) (k .at) .0
 
 -- ---- the arctangent's requirement
-pub apt : (x y : ℤ) (w h : ℕ) (start sweep : ℤ) (i j : ℕ) → Inside x w i → Inside y h j → let p = pieOf x y w h start sweep in Apt (acrossOf p i) (pieRowOf p j .dy)
+pub apt : (x y : ℤ) (w h : ℕ) (start sweep : ℤ) (i j : ℕ) → Inside x w i → Inside y h j → let p = pieOf x y w h start sweep in Halves (neg (pieRowOf p j .dy)) (acrossOf p i)
 unfolding acrossOf pieRowOf pieOf ovalOf
 apt x y w h start sweep i j p q = record { up = unfold offset in above y h j q; right = unfold offset in right x w i p }
 
@@ -144,8 +144,7 @@ pub in-domain : (x y : ℤ) (w h i j : ℕ) → Inside x w i → Inside y h j
     → let dx = offset (pos i) x w in let dy = offset (pos j) y h in lt (add binary32 (mul binary32 dx dx) (mul binary32 dy dy)) one ≡ false → Domain (neg dy) dx
 in-domain x y w h i j p q far =
     record {
-      up = above y h j q;
-      right = right x w i p;
+      halves = record { up = above y h j q; right = right x w i p };
       some = positive (halvesOf (neg (offset (pos j) y h)) + halvesOf (offset (pos i) x w)) (not-both (offset (pos i) x w) (offset (pos j) y h) (right x w i p) (above y h j q) far);
     }
   where

@@ -4,15 +4,14 @@ use mathlib.Core.Bool.{Bool, true, false}
 use mathlib.Core.List.{[], _∷_}
 use Prim.Native.Nat.{ℕ}
 use lib.IntN.{pos}
-use lib.Ieee.{binary32, isNan, ofInt, add, sub, mul, div, lt, le}
+use lib.Ieee.{binary32, isNan, ofBits, ofInt, add, sub, mul, div, lt, le}
 use Rattle.number.specs.Degrees.{radiansOf}
 use Rattle.number.specs.Size.{absOf, maxOf}
 use Rattle.number.specs.Whole.{roundSize, roundAs, ceilSize}
-use Rattle.angle.specs.Pie.{halfAxis, centre, offset}
-use Rattle.curves.specs.Ovals.{ovalOf}
+use Rattle.curves.specs.Ovals.{halfAxis, centre, offset, ovalOf}
 use Rattle.curves.specs.Strokes.{strokeRadius, stepsOf}
 use Rattle.curves.specs.Pies.{sweepOf, inSweep, inPie}
-use Rattle.curves.specs.Corners.{radiusOf, insetOf, cornersOf, nearestCentre, partOf, cornerRowOf, inCornersAt, inRound}
+use Rattle.curves.specs.Corners.{radiusOf, insetOf, nearestCentre, inRound}
 
 abbrev full : ℕ → ℕ → ℕ → ℕ → Bool
 full w h i j = inPie (pos 0) (pos 0) w h (pos 0) (pos 360) i j
@@ -40,11 +39,11 @@ by-rounding = refl
 
 -- A sweep of 0 is one step; a whole turn in a box of one pixel is 14.
 one-step : stepsOf (ovalOf (pos 0) (pos 0) 9 9) (radiansOf (ofInt binary32 (pos 0))) 240 320 ≡ 1
-unfolding stepsOf strokeRadius ovalOf centre halfAxis radiansOf ceilSize maxOf isNan absOf ofInt add sub mul div lt
+unfolding stepsOf strokeRadius ovalOf centre halfAxis radiansOf ceilSize maxOf isNan absOf ofBits ofInt add sub mul div lt
 one-step = refl
 
 fourteen : stepsOf (ovalOf (pos 0) (pos 0) 1 1) (radiansOf (ofInt binary32 (pos 360))) 240 320 ≡ 14
-unfolding stepsOf strokeRadius ovalOf centre halfAxis radiansOf ceilSize maxOf isNan absOf ofInt add sub mul div lt
+unfolding stepsOf strokeRadius ovalOf centre halfAxis radiansOf ceilSize maxOf isNan absOf ofBits ofInt add sub mul div lt
 fourteen = refl
 
 -- A radius of a half is an inset of 1.
@@ -57,10 +56,10 @@ abbrev rounded : ℕ → ℕ → ℕ → ℕ → Bool
 rounded s a i j = inRound (pos 0) (pos 0) s s a a i j
 
 empty : (rounded 2 1 0 0 ∷ rounded 2 1 1 0 ∷ rounded 2 1 0 1 ∷ rounded 2 1 1 1 ∷ []) ≡ false ∷ false ∷ false ∷ false ∷ []
-unfolding inRound inCornersAt cornerRowOf partOf nearestCentre cornersOf radiusOf maxOf isNan ofInt add sub mul div lt le
+unfolding inRound nearestCentre radiusOf maxOf isNan ofInt add sub mul div lt le
 empty = refl
 
 middle : (rounded 3 3 0 0 ∷ rounded 3 3 1 0 ∷ rounded 3 3 2 0 ∷ rounded 3 3 0 1 ∷ rounded 3 3 1 1 ∷ rounded 3 3 2 1 ∷ rounded 3 3 0 2 ∷ rounded 3 3 1 2 ∷ rounded 3 3 2 2 ∷ [])
     ≡ false ∷ false ∷ false ∷ false ∷ true ∷ false ∷ false ∷ false ∷ false ∷ []
-unfolding inRound inCornersAt cornerRowOf partOf nearestCentre cornersOf radiusOf maxOf isNan ofInt add sub mul div lt le
+unfolding inRound nearestCentre radiusOf maxOf isNan ofInt add sub mul div lt le
 middle = refl

@@ -1,25 +1,21 @@
 -- Round corners: radii, the four corners' ovals, and which points of its box a fill takes. Definitions only.
 use Prim.Native.Nat.{ℕ, _-_, min}
-use mathlib.Core.Bool.{Bool, false, cond}
-use lib.IntN.{ℤ, pos, negsuc, _+ℤ_}
-use lib.Ieee.{Float, fin, binary32, ofInt, add, sub, mul, div, lt, le}
-use Rattle.number.specs.Size.{maxOf}
-use Rattle.number.specs.Whole.{roundAs}
+use mathlib.Core.Bool.{Bool, cond}
+use lib.IntN.{ℤ, pos, _+ℤ_}
+use lib.Ieee.{Float, binary32, ofInt, add, sub, mul, div, lt, le}
+use Rattle.number.specs.Size.{one, maxOf}
+use Rattle.number.specs.Whole.{roundAs, atLeast0}
 use Rattle.curves.specs.declared.ovals.Oval.{Oval}
 use Rattle.curves.specs.declared.corners.Corners.{Corners}
-use Rattle.curves.specs.Ovals.{half, one}
+use Rattle.curves.specs.Ovals.{half, two}
 
 -- "radii rx, ry are half the smaller of arc size and box, at least 0.5"
 unfoldable pub radiusOf : ℕ → ℕ → Float
-radiusOf arc side = maxOf (div binary32 (ofInt binary32 (pos (min arc side))) (fin false 1 (pos 1))) half
-
-abbrev pub sizeOf : ℤ → ℕ
-sizeOf (pos n) = n
-sizeOf (negsuc n) = 0
+radiusOf arc side = maxOf (div binary32 (ofInt binary32 (pos (min arc side))) two) half
 
 -- "round(rx)", which is not negative.
 unfoldable pub insetOf : Float → ℕ
-insetOf r = sizeOf (roundAs 31 r)
+insetOf r = atLeast0 (roundAs 31 r)
 
 -- "centred rx, ry in from their corners": the first and last columns and rows are given.
 unfoldable pub cornersOf : ℤ → ℤ → ℤ → ℤ → Float → Float → Corners
@@ -39,7 +35,25 @@ cornerOf c right bottom = record { cx = cond right (c .right) (c .left); cy = co
 unfoldable pub nearestCentre : Float → Float → Float → Float
 nearestCentre p low high = cond (lt p low) low (cond (lt high p) high p)
 
--- The offset from it, over the radius, squared.
+-- ---- the whole test
+
+-- "The fill takes points whose offset from the nearest corner centre .. meets the pie's ellipse test with rx, ry", for the
+-- point (i, j) of a box with arc sizes aw and ah.
+unfoldable pub inRound : ℤ → ℤ → ℕ → ℕ → ℕ → ℕ → ℕ → ℕ → Bool
+inRound x y w h aw ah i j =
+    let rx = radiusOf aw w in
+    let ry = radiusOf ah h in
+    let px = ofInt binary32 (pos i) in
+    let py = ofInt binary32 (pos j) in
+    let cx = nearestCentre px (add binary32 (ofInt binary32 x) rx) (sub binary32 (ofInt binary32 (x +ℤ pos (w - 1))) rx) in
+    let cy = nearestCentre py (add binary32 (ofInt binary32 y) ry) (sub binary32 (ofInt binary32 (y +ℤ pos (h - 1))) ry) in
+    let nx = div binary32 (sub binary32 px cx) rx in
+    let ny = div binary32 (sub binary32 py cy) ry in
+    le (add binary32 (mul binary32 nx nx) (mul binary32 ny ny)) one
+
+-- ---- the same by parts: of the four corners, of a row, of a point
+
+-- The offset from the nearest centre, over the radius, squared.
 unfoldable pub partOf : Float → Float → Float → Float → Float
 partOf p low high r = let n = div binary32 (sub binary32 p (nearestCentre p low high)) r in mul binary32 n n
 
@@ -48,10 +62,3 @@ cornerRowOf c j = partOf (ofInt binary32 (pos j)) (c .top) (c .bottom) (c .ry)
 
 unfoldable pub inCornersAt : Corners → Float → ℕ → Bool
 inCornersAt c row i = le (add binary32 (partOf (ofInt binary32 (pos i)) (c .left) (c .right) (c .rx)) row) one
-
--- "The fill takes points whose offset from the nearest corner centre .. meets the pie's ellipse test with rx, ry", for the
--- point (i, j) of a box with arc sizes aw and ah.
-unfoldable pub inRound : ℤ → ℤ → ℕ → ℕ → ℕ → ℕ → ℕ → ℕ → Bool
-inRound x y w h aw ah i j =
-    let c = cornersOf x y (x +ℤ pos (w - 1)) (y +ℤ pos (h - 1)) (radiusOf aw w) (radiusOf ah h) in
-    inCornersAt c (cornerRowOf c j) i

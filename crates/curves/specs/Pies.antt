@@ -1,19 +1,17 @@
 -- Pies: which points of its box one takes. Definitions only.
 use mathlib.Core.Path.{_≡_}
-use Prim.Native.Nat.{ℕ, _+_, _≤_, _<_}
+use Prim.Native.Nat.{ℕ, _≤_}
 use mathlib.Core.Bool.{Bool, true, false, cond}
-use lib.Dec.{T}
 use lib.IntN.{ℤ, pos, natAbs, _+ℤ_}
 use lib.Signed.{leZ, ltZ}
 use lib.Ieee.{Float, binary32, ofInt, neg, add, sub, mul, div, lt, le, eq}
-use Rattle.number.specs.Size.{plusZero, absOf, maxOf}
+use Rattle.number.specs.Size.{plusZero, one, absOf, maxOf}
 use Rattle.number.specs.Degrees.{turn, remEuclid360}
-use Rattle.angle.specs.Arctangent.{isHalves, halvesOf, arctangentOf}
-use Rattle.angle.specs.Pie.{halfAxis, offset}
+use Rattle.angle.specs.Arctangent.{arctangentOf}
 use Rattle.curves.specs.declared.pies.Sweep.{Sweep}
 use Rattle.curves.specs.declared.pies.Pie.{Pie}
 use Rattle.curves.specs.declared.pies.PieRow.{PieRow}
-use Rattle.curves.specs.Ovals.{half, one, ovalOf}
+use Rattle.curves.specs.Ovals.{half, halfAxis, offset, ovalOf}
 
 -- ---- the sweep, in degrees
 
@@ -68,12 +66,7 @@ inPieAt p row i =
     let nx = div binary32 (acrossOf p i) (p .da) in
     cond (lt one (add binary32 (mul binary32 nx nx) (row .square))) false (inSweep (p .sweep) (acrossOf p i) (row .dy))
 
--- What the arctangent asks of an offset.
-pub record Apt (dx dy : Float) : Type 0 where
-  pub up : T (isHalves (neg dy))
-  pub right : T (isHalves dx)
-
--- ---- the arctangent's domain
+-- ---- the points of a box
 
 -- p is a place of a canvas's side, and one of the w from x on, a side of a box that SHAPE lets pass.
 pub record Inside (x : ℤ) (w p : ℕ) : Type 0 where
@@ -82,9 +75,3 @@ pub record Inside (x : ℤ) (w p : ℕ) : Type 0 where
   pub place : p ≤ 32767
   pub from : leZ x (pos p) ≡ true
   pub to : ltZ (pos p) (x +ℤ pos w) ≡ true
-
--- "Arctangent of (up, right), multiples of a half up to 16,383 in size, not both zero"
-pub record Domain (y x : Float) : Type 0 where
-  pub up : T (isHalves y)
-  pub right : T (isHalves x)
-  pub some : 0 < halvesOf y + halvesOf x

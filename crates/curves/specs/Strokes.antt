@@ -1,13 +1,12 @@
 -- Strokes: how many steps one has, and the point at each. Definitions only.
 use Prim.Native.Nat.{ℕ, _+_, _*_, min, max}
 use lib.Ieee.{Float, binary32, add, sub, mul}
-use Rattle.number.specs.Size.{absOf, maxOf}
+use Rattle.number.specs.Size.{one, absOf, maxOf}
 use Rattle.number.specs.Whole.{roundAs, ceilSize}
 use Rattle.angle.specs.Sine.{sineOf, cosineOf}
 use Rattle.angle.specs.Stroke.{strokeAngle}
 use Rattle.curves.specs.declared.ovals.Oval.{Oval}
 use Rattle.curves.specs.declared.strokes.Spot.{Spot}
-use Rattle.curves.specs.Ovals.{one}
 
 -- "A stroke has radius max(a,b,1)"
 unfoldable pub strokeRadius : Oval → Float

@@ -1,7 +1,6 @@
 // Ovals: centre and half axes, carried together.
 ghost use mathlib.Core.Path.{_≡_};
-ghost use Rattle.curves.specs.Ovals.{ovalOf};
-ghost use Rattle.angle.specs.Pie.{halfAxis};
+ghost use Rattle.curves.specs.Ovals.{halfAxis, ovalOf};
 
 pub struct Oval {
     pub cx: f32,

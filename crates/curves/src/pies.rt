@@ -1,8 +1,9 @@
 // Pies: what each pixel of one shares is worked out once, and what a row's pixels share once a row.
 ghost use mathlib.Core.Path.{_≡_};
-ghost use lib.Dec.{T};
+ghost use lib.Ieee.{neg};
 ghost use Rattle.angle.specs.Nodes.{nodes};
-ghost use Rattle.curves.specs.Pies.{sweepOf, inSweep, pieOf, pieRowOf, acrossOf, inPieAt, Apt};
+ghost use Rattle.angle.specs.Arctangent.{Halves};
+ghost use Rattle.curves.specs.Pies.{sweepOf, inSweep, pieOf, pieRowOf, acrossOf, inPieAt};
 use crate::ovals::Oval;
 use crate::ovals::oval_in;
 
@@ -79,7 +80,7 @@ pub fn pie_row(p: Pie, py: u16) -> PieRow
 
 // point_in_sweep, of the offset from the centre. The arctangent's table is lent.
 fn in_sweep(t: &[usize; 513], s: Sweep, dx: f32, dy: f32) -> bool
-    requires { ⌜ (now t ≡ nodes) × Apt dx dy ⌝ }
+    requires { ⌜ (now t ≡ nodes) × Halves (neg dy) dx ⌝ }
     ensures { λ r. ⌜ r ≡ inSweep s dx dy ⌝ }
 {
     if s.all {
@@ -97,7 +98,7 @@ fn in_sweep(t: &[usize; 513], s: Sweep, dx: f32, dy: f32) -> bool
 
 // Whether the pie takes a pixel of its box.
 pub fn in_pie(t: &[usize; 513], p: Pie, row: PieRow, px: u16) -> bool
-    requires { ⌜ (now t ≡ nodes) × Apt (acrossOf p px) (row .dy) ⌝ }
+    requires { ⌜ (now t ≡ nodes) × Halves (neg (row .dy)) (acrossOf p px) ⌝ }
     ensures { λ r. ⌜ r ≡ inPieAt p row px ⌝ }
 {
     let dx = px as f32 - p.oval.cx;

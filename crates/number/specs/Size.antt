@@ -6,6 +6,9 @@ use lib.Ieee.{Float, nan, inf, fin, lt, isNan}
 abbrev pub plusZero : Float
 plusZero = fin false 0 (pos 0)
 
+abbrev pub one : Float
+one = fin false 1 (pos 0)
+
 -- The size without a sign.
 unfoldable pub absOf : Float → Float
 absOf nan = nan

@@ -2,7 +2,7 @@
 -- nearest end, and a NaN to 0. Definitions only.
 use Prim.Native.Nat.{ℕ, _+_, _-_, _*_, _/_, _^_, min}
 use mathlib.Core.Bool.{cond}
-use lib.IntN.{ℤ, pos, negℤ}
+use lib.IntN.{ℤ, pos, negsuc, negℤ}
 use lib.Ieee.{Float, nan, inf, fin, up, down, toUnsigned}
 
 -- "cut downward to 0..255"
@@ -21,6 +21,11 @@ unfolding roundSize
 roundAs h nan = pos 0
 roundAs h (inf s) = cond s (negℤ (pos (roundSize (2 ^ h) (inf s)))) (pos (roundSize (2 ^ h - 1) (inf s)))
 roundAs h (fin s m e) = cond s (negℤ (pos (roundSize (2 ^ h) (fin s m e)))) (pos (roundSize (2 ^ h - 1) (fin s m e)))
+
+-- 0 for what is negative.
+abbrev pub atLeast0 : ℤ → ℕ
+atLeast0 (pos n) = n
+atLeast0 (negsuc n) = 0
 
 -- The whole number above, or x itself, up to 2 ^ 63 - 1; 0 for what is negative.
 unfoldable pub ceilSize : Float → ℕ

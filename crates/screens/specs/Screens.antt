@@ -1,21 +1,22 @@
 -- "The cases marked * are one proved table under a single theorem": the table, and what each kind of row says.
 use mathlib.Core.Path.{_≡_}
-use mathlib.Core.Bool.{false}
+use mathlib.Core.Bool.{true, false}
 use mathlib.Core.List.{List, [], _∷_}
-use Prim.Native.Nat.{ℕ}
+use Prim.Native.Nat.{ℕ, _/_, _%_}
 use lib.IntN.{ℤ, pos, negsuc}
 use lib.ListN.{length}
 use Rattle.words.specs.declared.Color.{Color}
 use Rattle.words.specs.Format.{Format, rgb332, rgb565, rgb8, argb, abgr}
 use Rattle.words.specs.Word.{color, fromColor, toColor}
-use Rattle.words.specs.Ink.{xorColor}
+use Rattle.words.specs.Ink.{plotWord}
 use Rattle.canvas.specs.declared.Canvas.{Canvas}
 use Rattle.canvas.specs.declared.Clip.{Clip}
 use Rattle.canvas.specs.Clip.{intersection}
 use Rattle.canvas.specs.Plot.{Point, at, hits}
 use Rattle.canvas.specs.Lines.{line}
 use Rattle.canvas.specs.Call.{Call, drawLine, clipOf, plots as plotsOf}
-use Rattle.lbmp.specs.Image.{grey, wordUnder}
+use Rattle.lbmp.specs.File.{kindOf}
+use Rattle.lbmp.specs.Image.{greyColor, colorAt, wordUnder}
 
 abbrev pub clip : ℕ → ℕ → ℕ → ℕ → Clip
 clip x y w h = record { x = pos x; y = pos y; width = w; height = h }
@@ -32,17 +33,19 @@ pub data Row : Type 0 where
   plots : Canvas → ℤ → ℤ → ℤ → ℤ → List Point → Row
   lands : Canvas → Call → ℕ → Row
   greys : ℕ → ℕ → Row
-  masks : Format → ℕ → ℕ → Row
+  masks : ℕ → ℕ → ℕ → Row
 
 abbrev pub Holds : Row → Type 0
 Holds (stores f c w) = fromColor f c ≡ w
 Holds (reads f w c) = toColor f w ≡ c
-Holds (xors f w c w′) = xorColor f w c ≡ w′
+Holds (xors f w c w′) = plotWord f true c w ≡ w′
 Holds (meets c d e) = intersection c d ≡ e
 Holds (plots v x1 y1 x2 y2 ps) = line v x1 y1 x2 y2 ≡ ps
 Holds (lands v k n) = length (hits v (clipOf k) (plotsOf v k)) ≡ n
-Holds (greys v g) = grey v ≡ g
-Holds (masks f w w′) = wordUnder 1 (toColor f w) ≡ w′
+-- v is 2*high+low.
+Holds (greys v g) = greyColor (v / 2) (v % 2) ≡ color 255 g g g
+-- The only pixel of a file of this type, its byte under a mask bit.
+Holds (masks kind byte w) = wordUnder 1 (colorAt (kindOf kind) (byte ∷ []) 0 1 0) ≡ w
 
 pub data Every : List Row → Type 0 where
   none : Every []
@@ -75,5 +78,5 @@ table =
     ∷ greys 1 170
     ∷ greys 2 85
     ∷ greys 3 0
-    ∷ masks rgb332 0xAD 0x00B46C55
+    ∷ masks 8 0xAD 0x00B46C55
     ∷ []

@@ -1,9 +1,10 @@
 -- What a canvas has of a segment, in the words and the order of 01. Definitions only.
-use mathlib.Core.Bool.{Bool, false, cond, _&&_}
+use mathlib.Core.Bool.{Bool, cond, _&&_}
 use Prim.Native.Nat.{ℕ}
 use lib.IntN.{ℤ, pos, negsuc}
 use lib.Signed.{leZ}
-use lib.Ieee.{Float, fin, binary64, ofInt, neg, add, sub, mul, div, lt, eq}
+use lib.Ieee.{Float, binary64, ofInt, neg, add, sub, mul, div, lt, eq}
+use Rattle.number.specs.Size.{plusZero, one}
 use Rattle.number.specs.Whole.{roundAs}
 use Rattle.segments.specs.declared.Segment.{Segment}
 use Rattle.segments.specs.declared.Cut.{Cut}
@@ -22,13 +23,7 @@ inside width height x y = near width x && near height y
 unfoldable pub kept : ℤ → ℤ → ℤ → ℤ → ℕ → ℕ → Bool
 kept x1 y1 x2 y2 width height = inside width height x1 y1 && inside width height x2 y2
 
--- "by Liang-Barsky in f64": 0, 1 and -1, and a whole number.
-abbrev pub zero : Float
-zero = fin false 0 (pos 0)
-
-abbrev pub one : Float
-one = fin false 1 (pos 0)
-
+-- "by Liang-Barsky in f64": a whole number.
 abbrev pub float : ℤ → Float
 float n = ofInt binary64 n
 
@@ -38,7 +33,7 @@ unfoldable pub narrowed : Float → Float → Cut → Cut
 narrowed p q cut.Nothing = cut.Nothing
 narrowed p q (cut.Part t0 t1) =
     let r = div binary64 q p in
-    cond (eq p zero) (cond (lt q zero) cut.Nothing (cut.Part t0 t1)) (cond (lt p zero) (cut.Part (cond (lt t0 r) r t0) t1) (cut.Part t0 (cond (lt r t1) r t1)))
+    cond (eq p plusZero) (cond (lt q plusZero) cut.Nothing (cut.Part t0 t1)) (cond (lt p plusZero) (cut.Part (cond (lt t0 r) r t0) t1) (cut.Part t0 (cond (lt r t1) r t1)))
 
 -- Nothing is left where the exit comes before the entry.
 abbrev pub forward : Cut → Cut
@@ -46,11 +41,11 @@ forward cut.Nothing = cut.Nothing
 forward (cut.Part t0 t1) = cond (lt t1 t0) cut.Nothing (cut.Part t0 t1)
 
 -- "in the order left, right, top, bottom; the answer is either a pair of f64 parameters or nothing left"
-unfoldable pub clip : ℤ → ℤ → ℤ → ℤ → ℕ → ℕ → Cut
-clip x1 y1 x2 y2 width height =
+unfoldable pub parameters : ℤ → ℤ → ℤ → ℤ → ℕ → ℕ → Cut
+parameters x1 y1 x2 y2 width height =
     let dx = sub binary64 (float x2) (float x1) in
     let dy = sub binary64 (float y2) (float y1) in
-    let left = narrowed (neg dx) (sub binary64 (float x1) (neg one)) (cut.Part zero one) in
+    let left = narrowed (neg dx) (sub binary64 (float x1) (neg one)) (cut.Part plusZero one) in
     let right = narrowed dx (sub binary64 (float (pos width)) (float x1)) left in
     let top = narrowed (neg dy) (sub binary64 (float y1) (neg one)) right in
     let bottom = narrowed dy (sub binary64 (float (pos height)) (float y1)) top in
@@ -70,4 +65,4 @@ between x1 y1 x2 y2 (cut.Part t0 t1) = clipped.Left (segment (end x1 x2 t0) (end
 -- "Any other is cut"
 unfoldable pub clipSegment : ℤ → ℤ → ℤ → ℤ → ℕ → ℕ → Clipped
 clipSegment x1 y1 x2 y2 width height =
-    cond (kept x1 y1 x2 y2 width height) (clipped.Left (segment x1 y1 x2 y2)) (between x1 y1 x2 y2 (clip x1 y1 x2 y2 width height))
+    cond (kept x1 y1 x2 y2 width height) (clipped.Left (segment x1 y1 x2 y2)) (between x1 y1 x2 y2 (parameters x1 y1 x2 y2 width height))

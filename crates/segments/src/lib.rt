@@ -1,6 +1,6 @@
 // Segments: what a canvas with a margin of one pixel has of them, kept or cut by Liang and Barsky in f64.
 ghost use mathlib.Core.Path.{_≡_};
-ghost use Rattle.segments.specs.Cut.{near, inside, kept, narrowed, clip, end, clipSegment};
+ghost use Rattle.segments.specs.Cut.{near, inside, kept, narrowed, parameters, end, clipSegment};
 
 // What is left of a segment: its entry and exit parameters.
 pub enum Cut {
@@ -73,7 +73,7 @@ fn narrow(c: Cut, p: f64, q: f64) -> Cut
 
 // The cut by the left, the right, the top and the bottom side, in this order.
 fn parameters(x1: i32, y1: i32, x2: i32, y2: i32, width: u32, height: u32) -> Cut
-    ensures { λ r. ⌜ r ≡ clip x1 y1 x2 y2 width height ⌝ }
+    ensures { λ r. ⌜ r ≡ parameters x1 y1 x2 y2 width height ⌝ }
 {
     let fx = x1 as f64;
     let fy = y1 as f64;

@@ -15,7 +15,7 @@ use Rattle.canvas.specs.declared.Drawn.{Drawn}
 use Rattle.canvas.specs.declared.Pixel.{Pixel}
 use Rattle.canvas.specs.Call.{Call, Outcome, outcome, statusOf, countOf, leaves, call}
 use Rattle.canvas.specs.Look.{reads, pixelAt}
-use Rattle.tuyrashka.specs.Exported.{color, clip, Told, tells}
+use Rattle.tuyrashka.specs.Exported.{colorOf, clip, Told, tells}
 
 -- a call under a clip, at a point, whose outcome is a definition's
 pub answers : (b′ : List ℕ) (g : ℤ → ℤ → Clip → Outcome) (x y cx cy : ℤ) (cw ch s n : ℕ) (d : Drawn)
@@ -29,10 +29,10 @@ answers b′ g x y cx cy cw ch s n d sx sy scx scy es en h =
 pub exports : (v : Canvas) (b b′ : List ℕ) (k : ℤ → ℤ → Color → Clip → Call) (x y cx cy : ℤ) (cw ch w s n : ℕ) (d : Drawn) (c : Color)
     → SFits w32 x → SFits w32 y → SFits w32 cx → SFits w32 cy → c ≡ toColor (formatOf 3) w → s ≡ statusOf d → n ≡ countOf d
     → leaves d b′ ≡ call v (k (toZ w32 (ofZ w32 x)) (toZ w32 (ofZ w32 y)) c (clip (toZ w32 (ofZ w32 cx)) (toZ w32 (ofZ w32 cy)) cw ch)) b
-    → outcome s n b′ ≡ call v (k x y (color w) (clip cx cy cw ch)) b
+    → outcome s n b′ ≡ call v (k x y (colorOf w) (clip cx cy cw ch)) b
 unfolding formatOf
 exports v b b′ k x y cx cy cw ch w s n d c sx sy scx scy ec es en h =
-    answers b′ (λ i j z. call v (k i j (color w) z) b) x y cx cy cw ch s n d sx sy scx scy es en (rw ec at h)
+    answers b′ (λ i j z. call v (k i j (colorOf w) z) b) x y cx cy cw ch s n d sx sy scx scy es en (rw ec at h)
 
 -- a call with a source's point beside
 pub answers-from : (b′ : List ℕ) (g : ℤ → ℤ → ℤ → ℤ → Clip → Outcome) (x y sx sy cx cy : ℤ) (cw ch s n : ℕ) (d : Drawn)
@@ -46,10 +46,10 @@ answers-from b′ g x y sx sy cx cy cw ch s n d fx fy fsx fsy fcx fcy es en h =
 pub exports-from : (v : Canvas) (b b′ : List ℕ) (k : ℤ → ℤ → ℤ → ℤ → Color → Clip → Call) (x y sx sy cx cy : ℤ) (cw ch w s n : ℕ) (d : Drawn) (c : Color)
     → SFits w32 x → SFits w32 y → SFits w32 sx → SFits w32 sy → SFits w32 cx → SFits w32 cy → c ≡ toColor (formatOf 3) w → s ≡ statusOf d → n ≡ countOf d
     → leaves d b′ ≡ call v (k (toZ w32 (ofZ w32 x)) (toZ w32 (ofZ w32 y)) (toZ w32 (ofZ w32 sx)) (toZ w32 (ofZ w32 sy)) c (clip (toZ w32 (ofZ w32 cx)) (toZ w32 (ofZ w32 cy)) cw ch)) b
-    → outcome s n b′ ≡ call v (k x y sx sy (color w) (clip cx cy cw ch)) b
+    → outcome s n b′ ≡ call v (k x y sx sy (colorOf w) (clip cx cy cw ch)) b
 unfolding formatOf
 exports-from v b b′ k x y sx sy cx cy cw ch w s n d c fx fy fsx fsy fcx fcy ec es en h =
-    answers-from b′ (λ i j p q z. call v (k i j p q (color w) z) b) x y sx sy cx cy cw ch s n d fx fy fsx fsy fcx fcy es en (rw ec at h)
+    answers-from b′ (λ i j p q z. call v (k i j p q (colorOf w) z) b) x y sx sy cx cy cw ch s n d fx fy fsx fsy fcx fcy es en (rw ec at h)
 
 -- a pixel read
 pub shows : (v : Canvas) (b : List ℕ) (x y : ℤ) (p : Pixel) (t : Told) → SFits w32 x → SFits w32 y

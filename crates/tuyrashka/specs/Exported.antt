@@ -20,8 +20,8 @@ abbrev pub clip : ℤ → ℤ → ℕ → ℕ → Clip
 clip x y w h = record { x = x; y = y; width = w; height = h }
 
 -- A colour is a word of the format ARGB.
-abbrev pub color : ℕ → Color
-color w = toColor argb w
+abbrev pub colorOf : ℕ → Color
+colorOf w = toColor argb w
 
 -- 1 and the colour's word, or 0 and 0.
 pub record Told : Type 0 where

@@ -3,7 +3,7 @@ ghost use mathlib.Core.Path.{_≡_};
 ghost use Rattle.canvas.specs.Call.{putPixel, drawLine, drawRect, fillRect, draw, outcome, call};
 ghost use Rattle.canvas.specs.Areas.{copyArea, invertRect};
 ghost use Rattle.canvas.specs.Look.{pixelAt};
-ghost use Rattle.tuyrashka.specs.Exported.{canvas, source, clip, color, told, tells};
+ghost use Rattle.tuyrashka.specs.Exported.{canvas, source, clip, colorOf, told, tells};
 
 mod bitmap;
 mod ovals;
@@ -28,7 +28,7 @@ pub extern "C" fn tuyrashka_put_pixel(
     ch: u32,
     count: &mut u64,
 ) -> u32
-    ensures { λ r. ⌜ outcome r (now (count .exit)) (now (bytes .exit)) ≡ call (canvas format width height xor) (putPixel x y (color argb) (clip cx cy cw ch)) (now (bytes .entry)) ⌝ }
+    ensures { λ r. ⌜ outcome r (now (count .exit)) (now (bytes .exit)) ≡ call (canvas format width height xor) (putPixel x y (colorOf argb) (clip cx cy cw ch)) (now (bytes .entry)) ⌝ }
 {
     let v = Canvas {
         format: format,
@@ -66,7 +66,7 @@ pub extern "C" fn tuyrashka_draw_line(
     ch: u32,
     count: &mut u64,
 ) -> u32
-    ensures { λ r. ⌜ outcome r (now (count .exit)) (now (bytes .exit)) ≡ call (canvas format width height xor) (drawLine x1 y1 x2 y2 (color argb) (clip cx cy cw ch)) (now (bytes .entry)) ⌝ }
+    ensures { λ r. ⌜ outcome r (now (count .exit)) (now (bytes .exit)) ≡ call (canvas format width height xor) (drawLine x1 y1 x2 y2 (colorOf argb) (clip cx cy cw ch)) (now (bytes .entry)) ⌝ }
 {
     let v = Canvas {
         format: format,
@@ -104,7 +104,7 @@ pub extern "C" fn tuyrashka_draw_rect(
     ch: u32,
     count: &mut u64,
 ) -> u32
-    ensures { λ r. ⌜ outcome r (now (count .exit)) (now (bytes .exit)) ≡ call (canvas format width height xor) (drawRect x y w h (color argb) (clip cx cy cw ch)) (now (bytes .entry)) ⌝ }
+    ensures { λ r. ⌜ outcome r (now (count .exit)) (now (bytes .exit)) ≡ call (canvas format width height xor) (drawRect x y w h (colorOf argb) (clip cx cy cw ch)) (now (bytes .entry)) ⌝ }
 {
     let v = Canvas {
         format: format,
@@ -142,7 +142,7 @@ pub extern "C" fn tuyrashka_fill_rect(
     ch: u32,
     count: &mut u64,
 ) -> u32
-    ensures { λ r. ⌜ outcome r (now (count .exit)) (now (bytes .exit)) ≡ call (canvas format width height xor) (fillRect x y w h (color argb) (clip cx cy cw ch)) (now (bytes .entry)) ⌝ }
+    ensures { λ r. ⌜ outcome r (now (count .exit)) (now (bytes .exit)) ≡ call (canvas format width height xor) (fillRect x y w h (colorOf argb) (clip cx cy cw ch)) (now (bytes .entry)) ⌝ }
 {
     let v = Canvas {
         format: format,

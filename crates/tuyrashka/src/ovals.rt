@@ -1,7 +1,7 @@
 // Arcs, pies and round rectangles for C and Rust.
 ghost use mathlib.Core.Path.{_≡_};
 ghost use Rattle.canvas.specs.Call.{drawArc, fillArc, drawRoundRect, fillRoundRect, outcome, call};
-ghost use Rattle.tuyrashka.specs.Exported.{canvas, clip, color};
+ghost use Rattle.tuyrashka.specs.Exported.{canvas, clip, colorOf};
 use canvas::Canvas;
 use canvas::Clip;
 
@@ -25,7 +25,7 @@ pub extern "C" fn tuyrashka_draw_arc(
     ch: u32,
     count: &mut u64,
 ) -> u32
-    ensures { λ r. ⌜ outcome r (now (count .exit)) (now (bytes .exit)) ≡ call (canvas format width height xor) (drawArc x y w h start arc (color argb) (clip cx cy cw ch)) (now (bytes .entry)) ⌝ }
+    ensures { λ r. ⌜ outcome r (now (count .exit)) (now (bytes .exit)) ≡ call (canvas format width height xor) (drawArc x y w h start arc (colorOf argb) (clip cx cy cw ch)) (now (bytes .entry)) ⌝ }
 {
     let v = Canvas {
         format: format,
@@ -65,7 +65,7 @@ pub extern "C" fn tuyrashka_fill_arc(
     ch: u32,
     count: &mut u64,
 ) -> u32
-    ensures { λ r. ⌜ outcome r (now (count .exit)) (now (bytes .exit)) ≡ call (canvas format width height xor) (fillArc x y w h start arc (color argb) (clip cx cy cw ch)) (now (bytes .entry)) ⌝ }
+    ensures { λ r. ⌜ outcome r (now (count .exit)) (now (bytes .exit)) ≡ call (canvas format width height xor) (fillArc x y w h start arc (colorOf argb) (clip cx cy cw ch)) (now (bytes .entry)) ⌝ }
 {
     let v = Canvas {
         format: format,
@@ -105,7 +105,7 @@ pub extern "C" fn tuyrashka_draw_round_rect(
     ch: u32,
     count: &mut u64,
 ) -> u32
-    ensures { λ r. ⌜ outcome r (now (count .exit)) (now (bytes .exit)) ≡ call (canvas format width height xor) (drawRoundRect x y w h aw ah (color argb) (clip cx cy cw ch)) (now (bytes .entry)) ⌝ }
+    ensures { λ r. ⌜ outcome r (now (count .exit)) (now (bytes .exit)) ≡ call (canvas format width height xor) (drawRoundRect x y w h aw ah (colorOf argb) (clip cx cy cw ch)) (now (bytes .entry)) ⌝ }
 {
     let v = Canvas {
         format: format,
@@ -145,7 +145,7 @@ pub extern "C" fn tuyrashka_fill_round_rect(
     ch: u32,
     count: &mut u64,
 ) -> u32
-    ensures { λ r. ⌜ outcome r (now (count .exit)) (now (bytes .exit)) ≡ call (canvas format width height xor) (fillRoundRect x y w h aw ah (color argb) (clip cx cy cw ch)) (now (bytes .entry)) ⌝ }
+    ensures { λ r. ⌜ outcome r (now (count .exit)) (now (bytes .exit)) ≡ call (canvas format width height xor) (fillRoundRect x y w h aw ah (colorOf argb) (clip cx cy cw ch)) (now (bytes .entry)) ⌝ }
 {
     let v = Canvas {
         format: format,

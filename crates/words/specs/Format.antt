@@ -1,7 +1,8 @@
 -- The formats of a canvas, and how large their words are.
 use Prim.Native.Nat.{ℕ, zero, suc}
 
--- "Formats: 0 `Rgb332Pixel`, 1 `Rgb565Pixel`, 2 `Rgb8Pixel`, 3 `ArgbPixel`, 4 `AbgrPixel`"; any other number is none.
+-- "Formats: 0 `Rgb332Pixel` (1 byte), 1 `Rgb565Pixel` (2), 2 `Rgb8Pixel`, 3 `ArgbPixel`, 4 `AbgrPixel` (4 each)."; any other
+-- number is none.
 pub data Format : Type 0 where
   rgb332 : Format
   rgb565 : Format

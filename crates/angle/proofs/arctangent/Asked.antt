@@ -9,7 +9,7 @@ use native.Mathlib.Omega.{arith}
 use lib.IntN.{ℤ, pos}
 use lib.Dec.{T, leb, ltb, eqb, leb→le, nleb→lt, lt→ltb, lit<, lit≤}
 use lib.Pow.{shl-lt, pow-pos}
-use lib.Ieee.{Float, nan, inf, fin, binary32, up, down, round, mul, neg, lt, eq, le}
+use lib.Ieee.{Float, nan, inf, fin, binary32, up, down, round, ofBits, mul, neg, lt, eq, le}
 use lib.Ieee.Fits.{down-pos, eq→eqb}
 use lib.Ieee.Exact.{HasValue, round-exact}
 use lib.Ieee.Scale.{round-same}
@@ -19,7 +19,7 @@ use Rattle.number.proofs.Range.{no}
 use Rattle.number.proofs.Signs.{sign-other}
 use Rattle.angle.specs.Meaning.{D, signed, parts, sine, cosine, Along}
 use Rattle.number.specs.Size.{signOf, plusZero}
-use Rattle.angle.specs.Arctangent.{turn, eighth, pick, halvesOf, isHalves, degreesOf, arctangentOf, Arctangent}
+use Rattle.angle.specs.Arctangent.{turn, eighth, pick, halvesOf, isHalves, degreesOf, arctangentOf, Domain, Arctangent}
 use Rattle.angle.proofs.arctangent.Angles.{product, product-is}
 use Rattle.angle.proofs.arctangent.Placed.{part, flat}
 use Rattle.angle.proofs.arctangent.Around.{all, eighth-0, eighth-45}
@@ -56,7 +56,7 @@ either false x a c v = v
 
 -- the product with the constant
 times : (s : Bool) (x : Float) (n : ℕ) → HasValue x s n 65536 → mul binary32 x degree ≡ round binary32 s (n * 9370165) (2 ^ 45)
-unfolding mul
+unfolding mul ofBits
 times s nan n v = absurd v
 times s (inf t) n v = absurd v
 times s (fin t m e) n v =
@@ -180,9 +180,10 @@ diagonal-left : (y x : Float) → halvesOf y ≡ halvesOf x → lt x plusZero �
 diagonal-left y x e l h = exactly y x 8847360 135 (pos 0) (turn-is y x true (halvesOf x) (halvesOf x) l e refl ∙ even-turn true (halvesOf x) h) (unfold round in refl)
 
 -- ---- all of it
-pub asked : (y x : Float) → T (isHalves y) → T (isHalves x) → 0 < halvesOf y + halvesOf x → Arctangent y x (arctangentOf y x)
+pub asked : (y x : Float) → Domain y x → Arctangent y x (arctangentOf y x)
 unfolding degreesOf radiansOf
-asked y x hy hx some =
+asked y x d =
+    let some : 0 < halvesOf y + halvesOf x = d .some in
     let s = signOf y in
     let n = turn (lt x plusZero) (halvesOf y) (halvesOf x) in
     let h : n ≤ 11796480 = turn-most (lt x plusZero) (halvesOf y) (halvesOf x) some in
@@ -195,7 +196,7 @@ asked y x hy hx some =
       low = w .0;
       high = w .1;
       along =
-          by (parts y) (parts x) (parts (mul binary32 (cond s (neg r) r) degree)) (signed s (halvesOf y * part)) (signed (lt x plusZero) (halvesOf x * part)) (signed s (product n)) (parts-are y hy) (right-is x hx) p
+          by (parts y) (parts x) (parts (mul binary32 (cond s (neg r) r) degree)) (signed s (halvesOf y * part)) (signed (lt x plusZero) (halvesOf x * part)) (signed s (product n)) (parts-are y (d .halves .up)) (right-is x (d .halves .right)) p
           (all s (lt x plusZero) (halvesOf y) (halvesOf x) (halves-few y) (halves-few x) some);
       axis-right = λ e l. axis-right y x e l (omega arith);
       axis-left = λ e l. axis-left y x e l (omega arith);

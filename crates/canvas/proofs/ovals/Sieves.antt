@@ -23,7 +23,7 @@ use Rattle.curves.specs.Corners.{radiusOf, cornersOf, inRound}
 use Rattle.curves.specs.Pies.{pieOf, inPie, Inside}
 use Rattle.curves.specs.Regions.{takes}
 use Rattle.curves.proofs.Domain.{apt}
-use Rattle.curves.proofs.Parts.{in-pie-is}
+use Rattle.curves.proofs.Parts.{in-pie-is, in-round-is}
 use Rattle.canvas.specs.declared.Canvas.{Canvas}
 use Rattle.canvas.specs.declared.Clip.{Clip}
 use Rattle.canvas.specs.Faults.{Shaped}
@@ -174,7 +174,7 @@ module _ (v : Canvas) (x y : ℤ) (w h aw ah : ℕ) where
     round-sieve k e c d =
         rw (no-side w h l m, no-side aw ah c d, a, b, e)
         (sieve-alike (inRound x y w h aw ah) (takes (Rounded (cornersOf x y (x +ℤ pos (w - 1)) (y +ℤ pos (h - 1)) (radiusOf aw w) (radiusOf ah h))))
-        (side x w (v .width)) (side y h (v .height)) (λ i j. unfold inRound in refl))
+        (side x w (v .width)) (side y h (v .height)) (λ i j. sym (in-round-is x y w h aw ah i j)))
 
 pub round-asked : (k : Corners) (t : List ℕ) (x y : ℤ) (w h : ℕ) → AskedIn (Rounded k) t x y w h
 round-asked k t x y w h = record { rows = λ j x0 x1 l m n o. tt }

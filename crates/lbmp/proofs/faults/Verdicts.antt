@@ -1,6 +1,6 @@
 -- The first of two faults; and a file with none is whole, as a whole file has none.
 use mathlib.Core.Path.{_≡_, refl, sym, ap, _∙_}
-use mathlib.Core.Bool.{Bool, true, false}
+use mathlib.Core.Bool.{Bool, true, false, _||_}
 use mathlib.Core.List.{List}
 use Prim.Native.Nat.{ℕ, _*_, _≤_, _<_}
 use native.Mathlib.Omega.{arith}
@@ -38,6 +38,10 @@ pub valid : (t : Bool) → invalid t ≡ Sound → t ≡ false
 valid true e = absurd (let z : _≡_ {A = ℕ} 0 1 = cc in omega arith)
 valid false e = refl
 
+neither : (s t : Bool) → (s || t) ≡ false → (s ≡ false) × (t ≡ false)
+neither true t e = absurd (let z : _≡_ {A = ℕ} 0 1 = cc in omega arith)
+neither false t e = (refl, e)
+
 pub area-known : (h : Header) → areaFault h ≡ Sound → h .width * h .height ≤ 4294967295
 unfolding areaFault
 area-known h e = ltb-false _ _ (valid (ltb 4294967295 (h .width * h .height)) e)
@@ -50,15 +54,15 @@ kind-known k e u = let z : _≡_ {A = ℕ} 0 1 = (let f : kindFault k ≡ Faulty
 
 module _ (h : Header) (w : h .width ≡ 0 → ⊥) (t : h .height ≡ 0 → ⊥) where
   pub size-other : (h .size ≡ expectedSize (kindOf (h .kind)) (h .width) (h .height) → ⊥) → Faulty Invalid ≡ fieldFault h
-  unfolding fieldFault orElse
+  unfolding fieldFault
   size-other s = rw (ne-eqb _ _ w, ne-eqb _ _ t, ne-eqb _ _ s) refl
 
   pub mask-other : h .size ≡ expectedSize (kindOf (h .kind)) (h .width) (h .height) → 1 < h .mask → Faulty Invalid ≡ fieldFault h
-  unfolding fieldFault orElse
+  unfolding fieldFault
   mask-other s m = rw (ne-eqb _ _ w, ne-eqb _ _ t, eq-eqb _ _ s, lt-ltb _ _ m) refl
 
   pub fields-fine : h .size ≡ expectedSize (kindOf (h .kind)) (h .width) (h .height) → h .mask ≤ 1 → Sound ≡ fieldFault h
-  unfolding fieldFault orElse
+  unfolding fieldFault
   fields-fine s m = rw (ne-eqb _ _ w, ne-eqb _ _ t, eq-eqb _ _ s, le-ltb _ _ m) refl
 
 pub expected-is : (h : Header) (k : Kind) (r : ℕ) → r ≡ expectedSize k (h .width) (h .height) → k ≡ kindOf (h .kind)
@@ -73,19 +77,19 @@ whole h n e =
     let kind = both-sound _ _ (twice .1) in
     let field = both-sound _ _ (kind .1) in
     let planes = both-sound _ _ (field .1) in
-    let width = both-sound _ _ (field .0) in
-    let height = both-sound _ _ (width .1) in
-    let size = both-sound _ _ (height .1) in
-    let w : h .width ≡ 0 → ⊥ = eqb-false _ _ (valid _ (width .0)) in
-    let t : h .height ≡ 0 → ⊥ = eqb-false _ _ (valid _ (height .0)) in
+    let mask = neither _ _ (valid _ (field .0)) in
+    let size = neither _ _ (mask .0) in
+    let sides = neither _ _ (size .0) in
+    let w : h .width ≡ 0 → ⊥ = eqb-false _ _ (sides .0) in
+    let t : h .height ≡ 0 → ⊥ = eqb-false _ _ (sides .1) in
     record {
       fair = record {
         known = kind-known _ (kind .0);
         few = area-known h (area .0);
         wide = positive _ w;
         high = positive _ t;
-        sized = eqb-true _ _ (not-false _ (valid _ (size .0)));
-        switch = ltb-false _ _ (valid _ (size .1));
+        sized = eqb-true _ _ (not-false _ (size .1));
+        switch = ltb-false _ _ (mask .1);
       };
       long = ltb-false _ _ (valid _ (planes .1));
     }

@@ -12,8 +12,8 @@ use lib.Ieee.{Float}
 use mir.Syntax.{w32}
 use mir.Val.{Fits, SFits, toZ, ofZ}
 use mir.ValLaws.{toZ-ofZ}
-use Rattle.number.specs.Whole.{roundAs}
-use Rattle.curves.specs.Corners.{sizeOf, insetOf}
+use Rattle.number.specs.Whole.{roundAs, atLeast0}
+use Rattle.curves.specs.Corners.{insetOf}
 use Rattle.curves.proofs.corners.inset.Statement.{statement}
 use Rattle.curves.proofs.corners.inset.Tie as tie
 
@@ -22,7 +22,7 @@ module _ (x : Float) (r : ℤ) (s : SFits w32 r) (e : r ≡ roundAs 31 x) where
   unfolding insetOf
   none h = go (roundAs 31 x) (ap (λ (z : ℤ). ltZ z (pos 0)) (sym (toZ-ofZ w32 r s ∙ e)) ∙ h)
     where
-      go : (z : ℤ) → ltZ z (pos 0) ≡ true → 0 ≡ sizeOf z
+      go : (z : ℤ) → ltZ z (pos 0) ≡ true → 0 ≡ atLeast0 z
       go (negsuc n) h = refl
       go (pos n) h = omega (arith, ltb-true)
 
@@ -30,7 +30,7 @@ module _ (x : Float) (r : ℤ) (s : SFits w32 r) (e : r ≡ roundAs 31 x) where
   unfolding insetOf
   kept h = ap natAbs (toZ-ofZ w32 r s ∙ e) ∙ go (roundAs 31 x) (ap (λ (z : ℤ). ltZ z (pos 0)) (sym (toZ-ofZ w32 r s ∙ e)) ∙ h)
     where
-      go : (z : ℤ) → ltZ z (pos 0) ≡ false → natAbs z ≡ sizeOf z
+      go : (z : ℤ) → ltZ z (pos 0) ≡ false → natAbs z ≡ atLeast0 z
       go (pos n) h = refl
       go (negsuc n) h = let z : _≡_ {A = ℕ} 0 1 = cc in omega arith
 

@@ -1,7 +1,7 @@
 -- `half_axis` meets its contract: it is the definition, step by step. Assumes nothing.
 use borrow.Author.Needs.{needs}
 use lib.Ieee.{ofBits}
-use Rattle.angle.specs.Pie.{halfAxis}
+use Rattle.curves.specs.Ovals.{halfAxis}
 use Rattle.curves.proofs.ovals.half_axis.Statement.{statement}
 use Rattle.curves.proofs.ovals.half_axis.Tie as tie
 

@@ -4,9 +4,8 @@ use mathlib.Core.Path.{_≡_}
 use Prim.Native.Nat.{ℕ}
 use lib.IntN.{ℤ}
 use lib.Ieee.{Float, binary32, ofInt, add}
-use Rattle.angle.specs.Pie.{halfAxis, centre}
 use Rattle.curves.specs.declared.ovals.Oval.{Oval}
-use Rattle.curves.specs.Ovals.{ovalOf}
+use Rattle.curves.specs.Ovals.{halfAxis, centre, ovalOf}
 use Rattle.curves.proofs.Signs.{as-given}
 use Rattle.curves.proofs.ovals.oval_in.Statement.{statement}
 use Rattle.curves.proofs.ovals.oval_in.Tie as tie

@@ -2,17 +2,17 @@
 use mathlib.Core.Path.{sym, refl, _∙_}
 use borrow.Author.Tests.{eq-eqb, ne-eqb}
 use borrow.Author.Needs.{needs}
-use Rattle.lbmp.specs.Faults.{fieldFault, orElse}
+use Rattle.lbmp.specs.Faults.{fieldFault}
 use Rattle.lbmp.proofs.faults.Verdicts.{size-other, mask-other, fields-fine, expected-is}
 use Rattle.lbmp.proofs.faults.field_fault.Statement.{statement}
 use Rattle.lbmp.proofs.faults.field_fault.Tie as tie
 
 returns : tie.Need-returns
-unfolding fieldFault orElse
+unfolding fieldFault
 returns c = rw (eq-eqb _ _ (c .if1 .taken)) refl
 
 returns-2 : tie.Need-returns-2
-unfolding fieldFault orElse
+unfolding fieldFault
 returns-2 c = rw (ne-eqb _ _ (c .before .before .if1 .left), eq-eqb _ _ (c .if2 .taken)) refl
 
 cast-if3 : tie.Need-cast-if3

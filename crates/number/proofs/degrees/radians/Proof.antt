@@ -1,12 +1,11 @@
 -- `radians` meets its contract: the code is the definition. Assumes nothing.
 use mathlib.Core.Path.{refl}
-use lib.Ieee.{ofBits}
 use Rattle.number.specs.Degrees.{radiansOf}
 use Rattle.number.proofs.degrees.radians.Statement.{statement}
 use Rattle.number.proofs.degrees.radians.Tie as tie
 
 returns : tie.Need-returns
-unfolding radiansOf ofBits
+unfolding radiansOf
 returns c = refl
 
 pub radians-spec : {M : Type 1} → statement M

@@ -11,10 +11,10 @@ use lib.IntN.{ℤ, pos, negsuc, negℤ, natAbs, _+ℤ_, _-ℤ_, pos-ne-negsuc, n
 use lib.Ieee.{Float, nan, inf, fin, binary32, up, down, round, neg, add, sub, div, sum, ofInt, unlike}
 use lib.Ieee.Fits.{down-pos, and-i, eq→eqb}
 use lib.Ieee.Exact.{HasValue, round-exact}
 use Rattle.angle.specs.Meaning.{signed}
 use Rattle.angle.specs.Arctangent.{isHalves, halvesOf}
-use Rattle.angle.specs.Pie.{halfAxis, centre, offset}
 use Rattle.angle.proofs.Signs.{like, size, none, opposite, plus, less, short, apart}
+use Rattle.curves.specs.Ovals.{halfAxis, centre, offset}
 
 -- x is z halves, K of them at most
 pub record Half (x : Float) (z : ℤ) (K : ℕ) : Type 0 where
