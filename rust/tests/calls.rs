@@ -89,6 +89,8 @@ fn arcs_and_pies_of_few_pixels() {
     assert_eq!(pie(3, 3), (Ok(5), vec![0, 255, 0, 255, 255, 255, 0, 255, 0]));
     assert_eq!(pie(2, 2), (Ok(0), vec![0; 4]));
     assert_eq!(pie(2, 1), (Ok(2), vec![255; 2]));
+    let quarter = on_black(3, 3, |canvas, whole| canvas.fill_arc(0, 0, 3, 3, 0, 90, WHITE, whole));
+    assert_eq!(quarter, (Ok(3), vec![0, 255, 0, 0, 255, 255, 0, 0, 0]));
     assert_eq!(on_black(4, 4, |canvas, whole| canvas.draw_arc(-1, -1, 2, 2, 0, 360, WHITE, whole)).0, Ok(3));
 }
 
@@ -133,13 +135,14 @@ fn areas_and_reading() {
 /// 200 at alpha 128 over 100 is 150; with XOR on it is 100 that is XORed.
 #[test]
 fn an_image_is_blended() {
-    let source = Image { format: ARGB, width: 1, height: 1, data: &0x80C8_C8C8_u32.to_le_bytes() };
+    let words = [0, 0x80C8_C8C8_u32].map(u32::to_le_bytes).concat();
+    let source = Image { format: ARGB, width: 1, height: 2, data: &words };
     for (xor, left) in [(false, 0xFF96_9696), (true, 0xFF00_0000)] {
-        let mut data = 0x0064_6464_u32.to_le_bytes();
-        let mut canvas = Canvas { format: ARGB, width: 1, height: 1, xor, data: &mut data };
-        assert_eq!(canvas.draw(0, 0, 1, 1, source, 0, 0, clip(0, 0, 1, 1)), Ok(1));
-        assert_eq!(canvas.get_pixel(0, 0), Ok(Some(Color::from_argb(left))));
-        assert_eq!(u32::from_le_bytes(data), left);
+        let mut data = [7, 0x0064_6464_u32].map(u32::to_le_bytes).concat();
+        let mut canvas = Canvas { format: ARGB, width: 2, height: 1, xor, data: &mut data };
+        assert_eq!(canvas.draw(1, 0, 9, 9, source, 0, 1, clip(0, 0, 2, 1)), Ok(1));
+        assert_eq!(canvas.get_pixel(1, 0), Ok(Some(Color::from_argb(left))));
+        assert_eq!(data, [7, left].map(u32::to_le_bytes).concat());
     }
 }
 
