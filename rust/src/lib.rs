@@ -124,7 +124,7 @@ macro_rules! calls {
             $($(#[$doc])*
             pub fn $name(&mut self, $($number: $type,)* $($color: Color,)? clip: Clip) -> Result<u64, Refusal> {
                 let mut count = 0;
-                // SAFETY: the bytes are borrowed for the call alone, their length is theirs, and the count is a local.
+                // SAFETY: pointer and length are those of bytes that only this canvas has, and the count is a local.
                 let status = unsafe {
                     $symbol(
                         self.format, self.width, self.height, self.xor, self.data.as_mut_ptr(), self.data.len(),
@@ -187,7 +187,7 @@ impl Canvas<'_> {
         &mut self, dx: i32, dy: i32, w: u32, h: u32, source: Image, sx: i32, sy: i32, clip: Clip,
     ) -> Result<u64, Refusal> {
         let mut count = 0;
-        // SAFETY: as of the calls above; the image is borrowed for the call too, and cannot overlap what is written.
+        // SAFETY: as above; the image is another slice, borrowed for the call, so it does not overlap the bytes.
         let status = unsafe {
             tuyrashka_draw(
                 self.format, self.width, self.height, self.xor, self.data.as_mut_ptr(), self.data.len(),
@@ -202,7 +202,7 @@ impl Canvas<'_> {
     /// Reads one point; nothing is there off the canvas.
     pub fn get_pixel(&self, x: i32, y: i32) -> Result<Option<Color>, Refusal> {
         let (mut found, mut argb) = (0, 0);
-        // SAFETY: the bytes are only read, their length is theirs, and what is written is two locals.
+        // SAFETY: pointer and length are those of bytes that are only read, and what is written are two locals.
         let status = unsafe {
             tuyrashka_get_pixel(
                 self.format, self.width, self.height, self.xor, self.data.as_ptr(), self.data.len(),
@@ -216,7 +216,7 @@ impl Canvas<'_> {
 /// Decodes an LBMP file to ARGB words, in rows. Words past the last pixel stay as they were.
 pub fn decode_lbmp(file: &[u8], out: &mut [u32]) -> Result<Bitmap, LbmpRefusal> {
     let (mut width, mut height, mut clear) = (0, 0, 0);
-    // SAFETY: both slices are borrowed for the call with their own lengths, and the rest is written to three locals.
+    // SAFETY: pointers and lengths are those of two slices that do not overlap, and the rest are three locals.
     let status = unsafe {
         tuyrashka_decode_lbmp(file.as_ptr(), file.len(), out.as_mut_ptr(), out.len(), &mut width, &mut height, &mut clear)
     };
