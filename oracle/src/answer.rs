@@ -59,13 +59,13 @@ pub fn answer_with(case: &Case, pixels: &[Pixel]) -> String {
 
 /// The Rust has no count. With XOR off each plot that lands is put once, whatever its colour, so the same call is made on
 /// a screen that only counts.
-fn landed(screen: &Screen, call: &Call) -> u64 {
+pub fn landed(screen: &Screen, call: &Call) -> u64 {
     let mut canvas = ImageBufferCanvas::new(Tally { width: screen.width, height: screen.height, landed: 0 });
     paint(&mut canvas, call);
     canvas.into_inner().landed
 }
 
-fn paint(canvas: &mut dyn Canvas, call: &Call) {
+pub fn paint(canvas: &mut dyn Canvas, call: &Call) {
     match *call {
         Call::Put { x, y, color, clip } => canvas.put_pixel(x, y, color, clip),
         Call::Line { from: (x1, y1), to: (x2, y2), color, clip } => canvas.draw_line(x1, y1, x2, y2, color, clip),
@@ -119,7 +119,7 @@ fn canvas_of<P: PixelType + 'static>(screen: &Screen) -> Box<dyn Canvas> {
 }
 
 /// The refusals have no counterpart in the Rust: the lowest number that holds.
-fn refusal(screen: &Screen, call: &Call) -> u32 {
+pub fn refusal(screen: &Screen, call: &Call) -> u32 {
     let side = |n: u32| n <= 32_767;
     let corner = |n: i32| (-32_768..=32_767).contains(&n);
     let angle = |n: i32| (-720..=720).contains(&n);

@@ -7,6 +7,7 @@ const LINE: usize = 65_536;
 /// The most bytes that a seed makes.
 const ROOM: u128 = 1_048_576;
 
+#[derive(Clone)]
 pub struct Screen {
     pub format: u32,
     pub width: u32,

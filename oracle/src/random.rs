@@ -46,10 +46,10 @@ impl Iterator for Cases {
 }
 
 /// The generator splitmix64.
-struct Chance(u64);
+pub struct Chance(pub u64);
 
 impl Chance {
-    fn next(&mut self) -> u64 {
+    pub fn next(&mut self) -> u64 {
         self.0 = self.0.wrapping_add(0x9e37_79b9_7f4a_7c15);
         let z = (self.0 ^ (self.0 >> 30)).wrapping_mul(0xbf58_476d_1ce4_e5b9);
         let z = (z ^ (z >> 27)).wrapping_mul(0x94d0_49bb_1331_11eb);
@@ -57,7 +57,7 @@ impl Chance {
     }
 
     /// From a to b, both included.
-    fn from(&mut self, a: i64, b: i64) -> i64 {
+    pub fn from(&mut self, a: i64, b: i64) -> i64 {
         a + (self.next() % (b - a + 1) as u64) as i64
     }
 
@@ -65,7 +65,7 @@ impl Chance {
         self.from(1, 100) <= n
     }
 
-    fn pick<T: Copy>(&mut self, from: &[T]) -> T {
+    pub fn pick<T: Copy>(&mut self, from: &[T]) -> T {
         from[self.next() as usize % from.len()]
     }
 
@@ -79,8 +79,13 @@ impl Chance {
             _ => self.sides(),
         };
         let head = self.head(w, h);
+        format!("{head} {op} {}", self.args(op, w, h))
+    }
+
+    /// What stands after OP, on a canvas of these sides.
+    pub fn args(&mut self, op: &str, w: i64, h: i64) -> String {
         let wild = 4;
-        let args = match op {
+        match op {
             "put" => format!("{} {} {}", self.point(w, h, wild), self.color(), self.clip(w, h)),
             "get" => self.point(w, h, wild),
             "line" => format!("{} {} {}", self.line(w, h), self.color(), self.clip(w, h)),
@@ -97,8 +102,7 @@ impl Chance {
             "invert" => format!("{} {}", self.area(w, h, wild), self.clip(w, h)),
             "draw" => self.draw(w, h),
             _ => unreachable!("not an op: {op}"),
-        };
-        format!("{head} {op} {args}")
+        }
     }
 
     /// F W H X SEED

@@ -1,0 +1,224 @@
+//! Lists of XOR calls, by the static library and by the Rust: `lists N SEED`. Each list is drawn in two orders, and once
+//! more to take it away. Between ours and the Rust's, points may differ only by the rule of oracle/src/rule.rs.
+
+extern crate alloc;
+
+#[allow(warnings)]
+#[path = "../src"]
+mod oracle {
+    pub mod answer;
+    #[path = "wie.rs"]
+    pub mod canvas;
+    pub mod case;
+    pub mod differ;
+    pub mod random;
+    pub mod rule;
+    pub mod tally;
+}
+mod sides;
+#[allow(dead_code)]
+#[path = "../../rust/src/lib.rs"]
+mod tuyrashka;
+
+use std::process::ExitCode;
+
+use oracle::{answer, canvas, case, differ, rule, tally};
+
+use answer::{answer, landed, refusal};
+use case::{Call, Case, Screen};
+use differ::permitted;
+use oracle::random::Chance;
+use sides::{Answer, answer_line, mark_ours, mark_rust, ours, rust};
+
+/// The calls that plot or draw an image.
+const OPS: [&str; 9] = ["put", "line", "rect", "fill", "rrect", "frrect", "arc", "pie", "draw"];
+
+/// Failures printed in full; the rest are only counted.
+const SHOWN: u64 = 5;
+
+/// Calls on one screen with XOR on, each also as the line of a case; and another order of them.
+struct List {
+    screen: Screen,
+    lines: Vec<String>,
+    calls: Vec<Call>,
+    order: Vec<usize>,
+    other: Vec<usize>,
+}
+
+impl List {
+    fn random(chance: &mut Chance) -> List {
+        let (format, w, h) = (chance.from(0, 4), side(chance), side(chance));
+        let head = format!("{format} {w} {h} 1 {}", chance.from(0, u32::MAX.into()));
+        let order: Vec<usize> = (0..chance.from(2, 12) as usize).collect();
+        let line = |_: &usize| {
+            let op = chance.pick(&OPS);
+            format!("{head} {op} {}", chance.args(op, w, h))
+        };
+        let lines: Vec<String> = order.iter().map(line).collect();
+        let cases: Vec<Case> = lines.iter().map(|line| Case::read(line.as_bytes()).expect("a case")).collect();
+        let screen = cases[0].screen.clone();
+        let calls = cases.into_iter().map(|case| case.call).collect();
+        let other = shuffled(chance, &order);
+        List { screen, lines, calls, order, other }
+    }
+
+    /// What each call has to answer, by the Rust: its refusal, or the plots that land.
+    fn expected(&self) -> Vec<Answer> {
+        let answer = |call| match refusal(&self.screen, call) {
+            0 => (0, landed(&self.screen, call)),
+            number => (number, 0),
+        };
+        self.calls.iter().map(answer).collect()
+    }
+
+    /// Ours draws the calls in an order: what it leaves, and its answers.
+    fn ours(&self, order: &[usize], bytes: &[u8]) -> (Vec<u8>, Vec<Answer>) {
+        let mut screen = self.screen_of(bytes);
+        let answers = order.iter().map(|&i| ours(&mut screen, true, &self.calls[i])).collect();
+        (screen.bytes, answers)
+    }
+
+    /// The Rust draws them, but for those that we refuse.
+    fn rust(&self, order: &[usize], bytes: &[u8]) -> Vec<u8> {
+        rust(&self.screen_of(bytes), order.iter().map(|&i| &self.calls[i]))
+    }
+
+    /// The Rust draws them, and ours some.
+    fn mixed(&self, by_ours: &[bool]) -> Vec<u8> {
+        let draw = |bytes: Vec<u8>, &i: &usize| if by_ours[i] { self.ours(&[i], &bytes).0 } else { self.rust(&[i], &bytes) };
+        self.order.iter().fold(self.screen.bytes.clone(), draw)
+    }
+
+    fn screen_of(&self, bytes: &[u8]) -> Screen {
+        Screen { bytes: bytes.to_vec(), ..self.screen }
+    }
+
+    /// The calls that ours draws otherwise than the Rust, if each may, and how many points do.
+    fn moved(&self) -> Option<(Vec<bool>, u64)> {
+        let mut points = 0;
+        let mut otherwise = |line: &String| {
+            let (ours, rust) = (answer_line(line), answer(line.as_bytes()));
+            if ours == rust {
+                return Some(false);
+            }
+            let mut ask = |lines: &[String]| lines.iter().map(|line| answer_line(line)).collect();
+            points += permitted(line, &ours, &rust, &mut ask)?;
+            Some(true)
+        };
+        let calls = self.lines.iter().map(&mut otherwise).collect::<Option<Vec<bool>>>()?;
+        Some((calls, points))
+    }
+
+    /// The first bytes, with alpha 255 where a plot of another alpha than 0 landed, in the formats that keep it.
+    fn settled(&self, by_ours: &[bool]) -> Vec<u8> {
+        let mut bytes = self.screen.bytes.clone();
+        if self.screen.format < 3 {
+            return bytes;
+        }
+        let mut marks = vec![false; bytes.len() / 4];
+        for (call, &by_ours) in self.calls.iter().zip(by_ours) {
+            let mark = if by_ours { mark_ours } else { mark_rust };
+            mark(&self.screen, call, &mut marks);
+        }
+        let alphas = bytes.iter_mut().skip(3).step_by(4);
+        alphas.zip(marks).filter(|(_, marked)| *marked).for_each(|(alpha, _)| *alpha = 255);
+        bytes
+    }
+}
+
+/// 0 now and then, mostly small, at most 64.
+fn side(chance: &mut Chance) -> i64 {
+    match chance.from(1, 100) {
+        1..=2 => 0,
+        3..=85 => chance.from(1, 12),
+        _ => chance.from(13, 64),
+    }
+}
+
+/// Another order of two things or more.
+fn shuffled(chance: &mut Chance, order: &[usize]) -> Vec<usize> {
+    let mut other = order.to_vec();
+    for i in (1..other.len()).rev() {
+        other.swap(i, chance.from(0, i as i64) as usize);
+    }
+    if other == order {
+        other.rotate_left(1);
+    }
+    other
+}
+
+/// What was drawn.
+#[derive(Default)]
+struct Tally {
+    lists: u64,
+    calls: u64,
+    refused: u64,
+    plots: u64,
+    /// Lists that leave other bytes than the first.
+    seen: u64,
+    /// Lists in which a point is elsewhere than the Rust's, where it may, and how many are.
+    allowed: u64,
+    moved: u64,
+}
+
+impl Tally {
+    /// Why a list fails, if it does.
+    fn look(&mut self, list: &List) -> Result<(), &'static str> {
+        let List { screen: Screen { bytes, .. }, order, other, .. } = list;
+        let (first, answers) = list.ours(order, bytes);
+        let (second, others) = list.ours(other, bytes);
+        hold(first == second, "ours leaves other bytes in the other order")?;
+        hold(other.iter().zip(others).all(|(&i, o)| answers[i] == o), "ours answers otherwise in the other order")?;
+        let theirs = list.rust(order, bytes);
+        hold(theirs == list.rust(other, bytes), "the Rust leaves other bytes in the other order")?;
+
+        let (expected, none) = (list.expected(), vec![false; order.len()]);
+        self.count(&expected, first != *bytes);
+        let mut by_ours = none.clone();
+        if first != theirs || answers != expected {
+            let (calls, points) = list.moved().ok_or("ours and the Rust differ where they may not")?;
+            hold(list.mixed(&calls) == first, "more differs than the points that may")?;
+            self.allowed += 1;
+            self.moved += points;
+            by_ours = calls;
+        }
+        hold(list.ours(other, &first).0 == list.settled(&by_ours), "ours does not take the list away")?;
+        hold(list.rust(other, &theirs) == list.settled(&none), "the Rust does not take the list away")
+    }
+
+    fn count(&mut self, answers: &[Answer], seen: bool) {
+        self.lists += 1;
+        self.calls += answers.len() as u64;
+        self.refused += answers.iter().filter(|(number, _)| *number != 0).count() as u64;
+        self.plots += answers.iter().map(|(_, count)| count).sum::<u64>();
+        self.seen += seen as u64;
+    }
+
+    fn say(&self, seed: u64, failed: u64) {
+        let Tally { lists, calls, refused, plots, seen, allowed, moved } = self;
+        println!(
+            "{lists} lists (seed {seed}) in two orders and twice: {calls} calls, {refused} of them refused, {plots} plots landed, \
+             {seen} lists seen; {moved} points elsewhere in {allowed} lists, where they may; {failed} lists fail"
+        );
+    }
+}
+
+fn hold(so: bool, else_why: &'static str) -> Result<(), &'static str> {
+    if so { Ok(()) } else { Err(else_why) }
+}
+
+fn main() -> ExitCode {
+    let words: Vec<u64> = std::env::args().skip(1).map(|word| word.parse().expect("a number")).collect();
+    let [n, seed] = words[..] else { panic!("lists N SEED") };
+    let (mut chance, mut tally, mut failed) = (Chance(seed), Tally::default(), 0);
+    for _ in 0..n {
+        let list = List::random(&mut chance);
+        let Err(why) = tally.look(&list) else { continue };
+        failed += 1;
+        if failed <= SHOWN {
+            println!("{why}; the other order is {:?}:\n  {}", list.other, list.lines.join("\n  "));
+        }
+    }
+    tally.say(seed, failed);
+    if failed == 0 { ExitCode::SUCCESS } else { ExitCode::FAILURE }
+}

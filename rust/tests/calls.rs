@@ -1,0 +1,284 @@
+//! The wrapper's test: small screens, XOR and its undoing, and every refusal on either side of its edge.
+
+use tuyrashka::{ABGR, ARGB, Canvas, Clip, Color, Image, LbmpRefusal, RGB8, RGB332, RGB565, Refusal, decode_lbmp};
+
+type Answer = Result<u64, Refusal>;
+
+const WHITE: Color = Color { a: 255, r: 255, g: 255, b: 255 };
+const SIZES: [u32; 5] = [1, 2, 4, 4, 4];
+
+fn clip(x: i32, y: i32, width: u32, height: u32) -> Clip {
+    Clip { x, y, width, height }
+}
+
+/// Bytes of all kinds, the same in each run.
+fn noise(length: usize) -> Vec<u8> {
+    let next = |s: &u32| Some(s.wrapping_mul(1_664_525).wrapping_add(1_013_904_223));
+    std::iter::successors(next(&7), next).map(|s| (s >> 24) as u8).take(length).collect()
+}
+
+/// A call's answer on a black 332 screen, and the bytes it leaves.
+fn on_black(width: u32, height: u32, call: impl Fn(&mut Canvas, Clip) -> Answer) -> (Answer, Vec<u8>) {
+    let mut data = vec![0; (width * height) as usize];
+    let mut canvas = Canvas { format: RGB332, width, height, xor: false, data: &mut data };
+    (call(&mut canvas, clip(0, 0, width, height)), data)
+}
+
+#[test]
+fn a_box_is_shown_and_taken_away() {
+    let mut bytes = vec![0; 240 * 320 * 2];
+    let mut canvas = Canvas { format: RGB565, width: 240, height: 320, xor: true, data: &mut bytes };
+    let red = Color { a: 255, r: 255, g: 0, b: 0 };
+    let whole = Clip { x: 0, y: 0, width: 240, height: 320 };
+    assert_eq!(canvas.draw_rect(20, 30, 100, 50, red, whole), Ok(296));
+    assert_eq!(canvas.get_pixel(20, 30), Ok(Some(red)));
+    assert_eq!(canvas.draw_rect(20, 30, 100, 50, red, whole), Ok(296));
+    assert!(bytes.iter().all(|&byte| byte == 0));
+}
+
+/// Where a format keeps alpha, it is 255 after, just where the box was.
+#[test]
+fn xor_is_undone_in_every_format() {
+    for format in [RGB332, RGB565, RGB8, ARGB, ABGR] {
+        let mut before = noise((9 * 7 * SIZES[format as usize]) as usize);
+        let mut data = before.clone();
+        let mut draw = || {
+            let mut canvas = Canvas { format, width: 9, height: 7, xor: true, data: &mut data };
+            assert_eq!(canvas.fill_rect(-1, 2, 5, 9, WHITE, clip(0, 0, 9, 6)), Ok(16));
+            data.clone()
+        };
+        assert_ne!(draw(), before);
+        if format >= ARGB {
+            let boxed = (2..6).flat_map(|y| (0..4).map(move |x| 9 * y + x));
+            boxed.for_each(|pixel| before[4 * pixel + 3] = 255);
+        }
+        assert_eq!(draw(), before);
+    }
+}
+
+#[test]
+fn the_first_sample_has_its_answer() {
+    let first = |text: &'static str| text.lines().next();
+    assert_eq!(first(include_str!("../../sample/cases")), Some("1 240 320 0 z fill 20 30 100 50 255 200 100 50 0 0 240 320"));
+    let mut data = vec![0; 240 * 320 * 2];
+    let mut canvas = Canvas { format: RGB565, width: 240, height: 320, xor: false, data: &mut data };
+    let color = Color { a: 255, r: 200, g: 100, b: 50 };
+    assert_eq!(canvas.fill_rect(20, 30, 100, 50, color, clip(0, 0, 240, 320)), Ok(5000));
+    let hash = data.iter().fold(0xcbf2_9ce4_8422_2325, |h: u64, &b| (h ^ b as u64).wrapping_mul(0x0100_0000_01b3));
+    assert_eq!(hash, 0xc18e_f2d4_4601_bc35);
+    let answer = format!("fill status=0 count=5000 hash={hash:016x}");
+    assert_eq!(first(include_str!("../../sample/answers")), Some(answer.as_str()));
+}
+
+#[test]
+fn a_line_and_its_way_back() {
+    let there = on_black(3, 2, |canvas, whole| canvas.draw_line(0, 0, 2, 1, WHITE, whole));
+    assert_eq!(there, (Ok(3), vec![255, 255, 0, 0, 0, 255]));
+    let back = on_black(3, 2, |canvas, whole| canvas.draw_line(2, 1, 0, 0, WHITE, whole));
+    assert_eq!(back, (Ok(3), vec![255, 0, 0, 0, 255, 255]));
+    assert_eq!(on_black(4, 4, |canvas, whole| canvas.draw_line(-10, 1, 10, 1, WHITE, whole)).0, Ok(4));
+}
+
+#[test]
+fn arcs_and_pies_of_few_pixels() {
+    let pie = |w, h| on_black(w, h, |canvas, whole| canvas.fill_arc(0, 0, w, h, 0, 360, WHITE, whole));
+    assert_eq!(pie(3, 3), (Ok(5), vec![0, 255, 0, 255, 255, 255, 0, 255, 0]));
+    assert_eq!(pie(2, 2), (Ok(0), vec![0; 4]));
+    assert_eq!(pie(2, 1), (Ok(2), vec![255; 2]));
+    let quarter = on_black(3, 3, |canvas, whole| canvas.fill_arc(0, 0, 3, 3, 0, 90, WHITE, whole));
+    assert_eq!(quarter, (Ok(3), vec![0, 255, 0, 0, 255, 255, 0, 0, 0]));
+    assert_eq!(on_black(4, 4, |canvas, whole| canvas.draw_arc(-1, -1, 2, 2, 0, 360, WHITE, whole)).0, Ok(3));
+}
+
+#[test]
+fn round_corners() {
+    let plain = on_black(4, 3, |canvas, whole| canvas.draw_rect(0, 0, 4, 3, WHITE, whole));
+    assert_eq!(plain, (Ok(10), vec![255, 255, 255, 255, 255, 0, 0, 255, 255, 255, 255, 255]));
+    assert_eq!(on_black(4, 3, |canvas, whole| canvas.draw_round_rect(0, 0, 4, 3, 0, 9, WHITE, whole)), plain);
+    let filled = on_black(3, 4, |canvas, whole| canvas.fill_round_rect(0, 0, 3, 4, 2, 2, WHITE, whole));
+    assert_eq!(filled, (Ok(8), vec![0, 255, 0, 255, 255, 255, 255, 255, 255, 0, 255, 0]));
+}
+
+/// Of one row, the top edge is the bottom one too: with XOR on they take each other away.
+#[test]
+fn a_round_outline_of_one_row() {
+    for (xor, middle) in [(false, [255; 2]), (true, [0; 2])] {
+        let mut data = [0; 6];
+        let mut canvas = Canvas { format: RGB332, width: 6, height: 1, xor, data: &mut data };
+        assert_eq!(canvas.draw_round_rect(0, 0, 6, 1, 2, 1, WHITE, clip(2, 0, 2, 1)), Ok(4));
+        assert_eq!(data[2..4], middle);
+    }
+}
+
+#[test]
+fn areas_and_reading() {
+    let mut data = [1, 2, 3, 4, 5, 6];
+    let mut canvas = Canvas { format: RGB332, width: 3, height: 2, xor: true, data: &mut data };
+    let whole = clip(0, 0, 3, 2);
+    assert_eq!(canvas.copy_area(1, 0, 0, 0, 3, 2, whole), Ok(4));
+    assert_eq!(canvas.data, [1, 1, 2, 4, 4, 5]);
+    assert_eq!(canvas.invert_rect(2, 1, 9, 9, whole), Ok(1));
+    assert_eq!(canvas.data, [1, 1, 2, 4, 4, 250]);
+    canvas.data[0] = 0xAD;
+    assert_eq!(canvas.get_pixel(0, 0), Ok(Some(Color { a: 255, r: 180, g: 108, b: 85 })));
+    assert_eq!(canvas.get_pixel(3, 0), Ok(None));
+    canvas.xor = false;
+    assert_eq!(canvas.put_pixel(-1, 0, WHITE, whole), Ok(0));
+    assert_eq!(canvas.put_pixel(1, 0, WHITE, whole), Ok(1));
+    assert_eq!(canvas.data[1], 255);
+}
+
+/// 200 at alpha 128 over 100 is 150; with XOR on it is 100 that is XORed.
+#[test]
+fn an_image_is_blended() {
+    let words = [0, 0x80C8_C8C8_u32].map(u32::to_le_bytes).concat();
+    let source = Image { format: ARGB, width: 1, height: 2, data: &words };
+    for (xor, left) in [(false, 0xFF96_9696), (true, 0xFF00_0000)] {
+        let mut data = [7, 0x0064_6464_u32].map(u32::to_le_bytes).concat();
+        let mut canvas = Canvas { format: ARGB, width: 2, height: 1, xor, data: &mut data };
+        assert_eq!(canvas.draw(1, 0, 9, 9, source, 0, 1, clip(0, 0, 2, 1)), Ok(1));
+        assert_eq!(canvas.get_pixel(1, 0), Ok(Some(Color::from_argb(left))));
+        assert_eq!(data, [7, left].map(u32::to_le_bytes).concat());
+    }
+}
+
+const SOURCE: Image = Image { format: RGB332, width: 1, height: 1, data: &[3] };
+const ALL: Clip = Clip { x: 0, y: 0, width: u32::MAX, height: u32::MAX };
+
+/// Every call that draws.
+const CALLS: [fn(&mut Canvas) -> Answer; 11] = [
+    |c| c.put_pixel(0, 0, WHITE, ALL),
+    |c| c.draw_line(0, 0, 1, 1, WHITE, ALL),
+    |c| c.draw_rect(0, 0, 2, 2, WHITE, ALL),
+    |c| c.fill_rect(0, 0, 2, 2, WHITE, ALL),
+    |c| c.draw_arc(0, 0, 2, 2, 0, 360, WHITE, ALL),
+    |c| c.fill_arc(0, 0, 3, 3, 0, 360, WHITE, ALL),
+    |c| c.draw_round_rect(0, 0, 3, 3, 1, 1, WHITE, ALL),
+    |c| c.fill_round_rect(0, 0, 3, 3, 1, 1, WHITE, ALL),
+    |c| c.invert_rect(0, 0, 2, 2, ALL),
+    |c| c.copy_area(0, 0, 1, 0, 2, 2, ALL),
+    |c| c.draw(0, 0, 1, 1, SOURCE, 0, 0, ALL),
+];
+
+/// The number of a call on a canvas of noise, whose bytes are as before just where that is not 0.
+fn number(sides: [u32; 3], length: usize, call: impl Fn(&mut Canvas) -> Answer) -> u32 {
+    let [format, width, height] = sides;
+    let before = noise(length);
+    let mut data = before.clone();
+    let answer = call(&mut Canvas { format, width, height, xor: true, data: &mut data });
+    assert_eq!(answer.is_err(), data == before);
+    answer.map_or_else(Refusal::number, |_| 0)
+}
+
+#[test]
+fn every_call_refuses_a_canvas() {
+    for call in CALLS {
+        assert_eq!([4, 5].map(|format| number([format, 4, 4], 64, call)), [0, 1]);
+        assert_eq!([32_767, 32_768].map(|width| number([0, width, 1], width as usize, call)), [0, 2]);
+        assert_eq!([32_767, 32_768].map(|height| number([0, 2, height], 2 * height as usize, call)), [0, 2]);
+        assert_eq!([31, 32, 33].map(|length| number([1, 4, 4], length, call)), [3, 0, 3]);
+        assert_eq!(number([5, 32_768, 1], 0, call), 1);
+        assert_eq!(number([1, 32_768, 1], 0, call), 2);
+        assert_eq!(number([1, 1, 1], 0, call), 3);
+    }
+}
+
+#[test]
+fn reading_refuses_a_canvas() {
+    for (format, width, length, refusal) in
+        [(5, 4, 64, Refusal::Format), (0, 32_768, 32_768, Refusal::Size), (0, 4, 3, Refusal::Length)]
+    {
+        let canvas = Canvas { format, width, height: 1, xor: false, data: &mut noise(length) };
+        assert_eq!(canvas.get_pixel(0, 0), Err(refusal));
+    }
+}
+
+#[test]
+fn a_source_is_refused() {
+    let data = &noise(32_768)[..];
+    let drawn = |source: Image| number([1, 4, 4], 32, |c| c.draw(0, 0, 4, 4, source, 0, 0, ALL));
+    assert_eq!([4, 5].map(|format| drawn(Image { format, width: 2, height: 2, data: &data[..16] })), [0, 4]);
+    assert_eq!([32_767, 32_768].map(|width| drawn(Image { format: 0, width, height: 1, data: &data[..width as usize] })), [0, 4]);
+    assert_eq!([7, 8, 9].map(|length| drawn(Image { format: 1, width: 2, height: 2, data: &data[..length] })), [4, 0, 4]);
+}
+
+#[test]
+fn an_angle_is_refused() {
+    let tried = |w, start, arc| {
+        let drawn = number([1, 4, 4], 32, |c| c.draw_arc(0, 0, w, 4, start, arc, WHITE, ALL));
+        let filled = number([1, 4, 4], 32, |c| c.fill_arc(0, 0, w, 4, start, arc, WHITE, ALL));
+        [drawn, filled]
+    };
+    assert_eq!([-721, -720, 720, 721].map(|start| tried(4, start, 200)), [[5; 2], [0; 2], [0; 2], [5; 2]]);
+    assert_eq!([-721, -720, 720, 721].map(|arc| tried(4, 0, arc)), [[5; 2], [0; 2], [0; 2], [5; 2]]);
+    assert_eq!(tried(32_768, 721, 0), [5; 2]);
+}
+
+#[test]
+fn a_shape_is_refused() {
+    let tried = |[x, y]: [i32; 2], [w, h]: [u32; 2]| {
+        let calls: [&dyn Fn(&mut Canvas) -> Answer; 4] = [
+            &|c| c.draw_arc(x, y, w, h, 0, 360, WHITE, ALL),
+            &|c| c.fill_arc(x, y, w, h, 0, 360, WHITE, ALL),
+            &|c| c.draw_round_rect(x, y, w, h, 2, 2, WHITE, ALL),
+            &|c| c.fill_round_rect(x, y, w, h, 2, 2, WHITE, ALL),
+        ];
+        calls.map(|call| number([1, 4, 4], 32, call))
+    };
+    assert_eq!([32_767, 32_768].map(|w| tried([-16_383, 0], [w, 4])), [[0; 4], [6; 4]]);
+    assert_eq!([32_767, 32_768].map(|h| tried([0, -16_383], [4, h])), [[0; 4], [6; 4]]);
+    for corner in [[-32_769, 0], [32_768, 0], [0, -32_769], [0, 32_768]] {
+        assert_eq!(tried(corner, [4, 4]), [6; 4]);
+    }
+}
+
+/// At these corners nothing lands, and nothing is refused.
+#[test]
+fn the_farthest_corners_are_accepted() {
+    for [x, y] in [[-32_768, 0], [32_767, 0], [0, -32_768], [0, 32_767]] {
+        let drawn = on_black(4, 4, |canvas, whole| canvas.draw_arc(x, y, 4, 4, 0, 360, WHITE, whole));
+        let filled = on_black(4, 4, |canvas, whole| canvas.fill_round_rect(x, y, 4, 4, 2, 2, WHITE, whole));
+        assert_eq!(drawn, (Ok(0), vec![0; 16]));
+        assert_eq!(filled, drawn);
+    }
+}
+
+fn file(fields: [u32; 5], body: &[u8]) -> Vec<u8> {
+    let header = [0].into_iter().chain(fields).flat_map(u32::to_le_bytes);
+    header.chain(body.iter().copied()).collect()
+}
+
+#[test]
+fn bitmaps_are_decoded() {
+    let mut out = [7; 5];
+    let greys = decode_lbmp(&file([2, 4, 1, 4, 0], &[0, 0, 1, 1, 0, 1, 0, 1]), &mut out).unwrap();
+    assert_eq!((greys.width, greys.height, greys.clear), (4, 1, 0));
+    assert_eq!(out, [0xFFFF_FFFF, 0xFFAA_AAAA, 0xFF55_5555, 0xFF00_0000, 7]);
+    let masked = decode_lbmp(&file([8, 1, 1, 1, 1], &[0xAD, 1]), &mut out).unwrap();
+    assert_eq!((masked.clear, out[0], out[1]), (1, 0x00B4_6C55, 0xFFAA_AAAA));
+}
+
+#[test]
+fn bitmaps_are_refused() {
+    let tried = |file: &[u8], room: usize| {
+        let mut out = vec![7; room];
+        let answer = decode_lbmp(file, &mut out);
+        assert_eq!(answer.is_err(), out.iter().all(|&word| word == 7));
+        answer.map_or_else(LbmpRefusal::number, |_| 0)
+    };
+    let whole = file([8, 2, 2, 4, 1], &[1, 2, 3, 4, 0, 1]);
+    assert_eq!([4, 3].map(|room| tried(&whole, room)), [0, 12]);
+    assert_eq!([30, 29, 24, 23, 0].map(|length| tried(&whole[..length], 4)), [0, 10, 10, 10, 10]);
+    assert_eq!([0, 1, 2].map(|mask| tried(&file([8, 2, 2, 4, mask], &[1; 6]), 4)), [0, 0, 10]);
+    assert_eq!([7, 8, 9].map(|kind| tried(&file([kind, 2, 2, 4, 0], &[1; 4]), 4)), [11, 0, 11]);
+    assert_eq!([3, 4, 5].map(|size| tried(&file([8, 2, 2, size, 0], &[1; 5]), 4)), [10, 0, 10]);
+}
+
+#[test]
+fn the_readme_shows_what_is_tested() {
+    let section = include_str!("../../README.md").split("\n## ").find_map(|part| part.strip_prefix("Calling it\n"));
+    let shown: Vec<&str> = section.unwrap().lines().filter_map(|line| line.strip_prefix("    ")).map(str::trim).collect();
+    let tested = [include_str!("calls.rs"), include_str!("../../c/sample.c")].concat();
+    assert!(shown.len() > 10);
+    assert_eq!(shown.iter().find(|line| !tested.contains(*line)), None);
+}
