@@ -1,11 +1,9 @@
-pub mod Arguments
-pub mod Calls
 pub mod Cases
 pub mod Determined
 pub mod Fills
 pub mod Hashes
 pub mod Numbers
 pub mod Reading
+pub mod Rows
 pub mod Seeds
-pub mod Signs
 pub mod Texts

@@ -111,6 +111,22 @@ pub barred : {A : Type 0} (d : A) (f : List ℕ → Value A) (line : List ℕ) (
     → ((w : List ℕ) → f (getD line i 0 ∷ w) ≡ none) → i < length line → next d f (leftAt line i) ≡ got d lost
 barred d f line i n b h = barred-by d f line i n b h (ℕ-discrete (getD line i 0) 32)
 
+-- Two rules that take the empty word alike, and what begins with this letter, find the same.
+matched-by : {A : Type 0} (d : A) (f g : List ℕ → Value A) (line : List ℕ) (i : ℕ) → f [] ≡ g []
+    → ((w : List ℕ) → f (getD line i 0 ∷ w) ≡ g (getD line i 0 ∷ w)) → i < length line → Dec (getD line i 0 ≡ 32)
+    → next d f (leftAt line i) ≡ next d g (leftAt line i)
+matched-by d f g line i n b h (yes e) =
+    space d f line i h e ∙ ap (λ (v : Value _). after d v (leftAt line (i + 1))) n ∙ sym (space d g line i h e)
+matched-by d f g line i n b h (no s) =
+    letter d f line i h s ∙
+    alike d (λ (w : List ℕ). f (getD line i 0 ∷ w)) (λ (w : List ℕ). g (getD line i 0 ∷ w)) b (leftAt line (i + 1)) ∙
+    sym (letter d g line i h s)
+
+pub matched : {A : Type 0} (d : A) (f g : List ℕ → Value A) (line : List ℕ) (i : ℕ) → f [] ≡ g []
+    → ((w : List ℕ) → f (getD line i 0 ∷ w) ≡ g (getD line i 0 ∷ w)) → i < length line
+    → next d f (leftAt line i) ≡ next d g (leftAt line i)
+matched d f g line i n b h = matched-by d f g line i n b h (ℕ-discrete (getD line i 0) 32)
+
 pub first-found : {A : Type 0} (a : A) (line : List ℕ) (i : ℕ) (h : Got A) → i < length line + 2
     → firstOf (got a (leftAt line i)) h ≡ got a (leftAt line i)
 unfolding firstOf

@@ -6,13 +6,13 @@ use native.Mathlib.Numerals.{add-one}
 use native.Mathlib.Omega.{arith}
 use lib.ListN.{length, getD}
 use borrow.Author.Tests.{lt-ltb, le-ltb, eq-eqb, ne-eqb, eqb-false}
-use Rattle.cases.specs.Line.{Left, lost, Value, value, none, Got, got, after, next, firstOf}
+use Rattle.cases.specs.Line.{Left, words, lost, Value, value, none, Got, got, after, next}
 use Rattle.cases.specs.Place.{leftAt, pairs, Within, Fills}
-use Rattle.cases.specs.Seed.{minus, filled, fileOf, Sown, counted, given, nibble, byte, before, hexes, givenBy, givenHex, exact, zeros, z, countedBy, seedOf}
-use Rattle.cases.specs.Number.{numberOf, named}
+use Rattle.cases.specs.Seed.{Sown, zeros, counted, given, nibble, byte, before, hexes, givenBy, givenHex, countedBy, sowing, seedOf, filled, fileOf}
+use Rattle.cases.specs.Number.{natural, numberOf, nameOf}
 use Rattle.cases.specs.declared.seed.Seed.{Seed}
 use Rattle.cases.specs.declared.seed.Seed.the-variants.{Bytes}
-use Rattle.cases.proofs.Reading.{letter, alike, refused, barred, short, empty, first-found, first-missed}
+use Rattle.cases.proofs.Reading.{letter, alike, refused, barred, short, empty, matched}
 
 -- What is still to be read after the first bytes.
 abbrev pub rest : List ℕ → List ℕ → Value Sown
@@ -83,15 +83,63 @@ module _ (p line : List ℕ) (i : ℕ) (h : i < length line) (s : getD line i 0 
 
 -- An x, and then hex.
 pub marked : (line : List ℕ) (i : ℕ) → i < length line → getD line i 0 ≡ 120
-    → next (counted 0) exact (leftAt line i) ≡ next (counted 0) givenHex (leftAt line (i + 1))
-unfolding exact
+    → next (counted 0) sowing (leftAt line i) ≡ next (counted 0) givenHex (leftAt line (i + 1))
+unfolding sowing
 marked line i h e =
-    letter (counted 0) exact line i h (λ (p : getD line i 0 ≡ 32). eqb-false 120 32 refl (sym e ∙ p)) ∙
-    alike (counted 0) (λ (w : List ℕ). exact (getD line i 0 ∷ w)) givenHex (λ w. rw (eq-eqb (getD line i 0) 120 e)) (leftAt line (i + 1))
+    letter (counted 0) sowing line i h (λ (p : getD line i 0 ≡ 32). eqb-false 120 32 refl (sym e ∙ p)) ∙
+    alike (counted 0) (λ (w : List ℕ). sowing (getD line i 0 ∷ w)) givenHex (λ w. rw (eq-eqb (getD line i 0) 120 e)) (leftAt line (i + 1))
 
-pub unmarked : (line : List ℕ) (i : ℕ) → i < length line → (getD line i 0 ≡ 120 → ⊥) → next (counted 0) exact (leftAt line i) ≡ got (counted 0) lost
-unfolding exact
-unmarked line i h e = barred (counted 0) exact line i refl (λ w. rw (ne-eqb (getD line i 0) 120 e)) h
+-- Or a number.
+counted-after : (v : Value ℕ) (l : Left) → after (counted 0) (countedBy v) l ≡ got (counted (after 0 v l .value)) (after 0 v l .left)
+unfolding after countedBy
+counted-after (value n) l = refl
+counted-after none l = refl
+
+counted-next : (f : List ℕ → Value ℕ) (l : Left)
+    → next (counted 0) (λ (w : List ℕ). countedBy (f w)) l ≡ got (counted (next 0 f l .value)) (next 0 f l .left)
+unfolding next
+counted-next f (words []) = refl
+counted-next f (words (w ∷ ws)) = counted-after (f w) (words ws)
+counted-next f lost = refl
+
+unmarked : (line : List ℕ) (i : ℕ) → i < length line → (getD line i 0 ≡ 120 → ⊥)
+    → next (counted 0) sowing (leftAt line i) ≡ next (counted 0) (λ (w : List ℕ). countedBy (natural 4294967295 w)) (leftAt line i)
+unfolding sowing natural countedBy
+unmarked line i h e =
+    matched (counted 0) sowing (λ (w : List ℕ). countedBy (natural 4294967295 w)) line i refl
+    (λ w. rw (ne-eqb (getD line i 0) 120 e)) h
+
+-- The kinds of a seed in turn, and of a file.
+module _ (line : List ℕ) (i v j : ℕ) (e : got v (leftAt line j) ≡ nameOf (leftAt line i)) where
+  pub is-zeros : v ≡ 122 → got zeros (leftAt line j) ≡ seedOf (leftAt line i)
+  unfolding seedOf
+  is-zeros z = sym (rw (← e, eq-eqb v 122 z))
+
+  no-zeros : (v ≡ 122 → ⊥) → seedOf (leftAt line i) ≡ next (counted 0) sowing (leftAt line i)
+  unfolding seedOf
+  no-zeros n = rw (← e, ne-eqb v 122 n)
+
+  pub no-seed : (v ≡ 122 → ⊥) → length line ≤ i → seedOf (leftAt line i) ≡ got (counted 0) lost
+  unfolding sowing
+  no-seed n h = no-zeros n ∙ short (counted 0) sowing line i refl h
+
+  pub is-given : (v ≡ 122 → ⊥) → i < length line → getD line i 0 ≡ 120 → next (counted 0) givenHex (leftAt line (i + 1)) ≡ seedOf (leftAt line i)
+  is-given n h x = sym (no-zeros n ∙ marked line i h x)
+
+  pub is-counted : (v ≡ 122 → ⊥) → i < length line → (getD line i 0 ≡ 120 → ⊥) → (m k : ℕ) → got m (leftAt line k) ≡ numberOf 4294967295 (leftAt line i)
+      → got (counted m) (leftAt line k) ≡ seedOf (leftAt line i)
+  unfolding numberOf
+  is-counted n h x m k f =
+      ap (λ (g : Got ℕ). got (counted (g .value)) (g .left)) f ∙
+      sym (no-zeros n ∙ unmarked line i h x ∙ counted-next (natural 4294967295) (leftAt line i))
+
+  pub no-file : v ≡ 45 → got (given []) (leftAt line j) ≡ fileOf (leftAt line i)
+  unfolding fileOf
+  no-file z = sym (rw (← e, eq-eqb v 45 z))
+
+  pub a-file : (v ≡ 45 → ⊥) → next (counted 0) filled (leftAt line i) ≡ fileOf (leftAt line i)
+  unfolding fileOf
+  a-file n = sym (rw (← e, ne-eqb v 45 n))
 
 pub pairs-more : (line : List ℕ) (from n i : ℕ) → i ≡ from + 2 * n
     → pairs line from (n + 1) ≡ pairs line from n ++ (byte (getD line i 0) (getD line (i + 1) 0) ∷ [])
@@ -117,42 +165,6 @@ onward line at n i e h s a m b =
     pair (pairs line at n) line i h s a m b ∙
     ap (λ (p : List ℕ). next (counted 0) (rest p) (leftAt line (i + 1 + 1))) (sym (pairs-more line at n i e)) ∙
     ap (λ (k : ℕ). next (counted 0) (rest (pairs line at (n + 1))) (leftAt line k)) j
-
--- The kinds of a seed in turn.
-abbrev others : Left → Got Sown
-others l = firstOf (next (counted 0) exact l) (countedBy (numberOf 4294967295 l))
-
-module _ (line : List ℕ) (l : Left) where
-  pub is-zeros : (i : ℕ) → leftAt line i ≡ named z l → i < length line + 2 → got zeros (leftAt line i) ≡ seedOf l
-  unfolding seedOf
-  is-zeros i e h = sym (first-found zeros line i _ h) ∙ ap (λ (k : Left). firstOf (got zeros k) (others l)) e
-
-  no-zeros : (i : ℕ) → leftAt line i ≡ named z l → length line + 2 ≤ i → others l ≡ seedOf l
-  unfolding seedOf
-  no-zeros i e h = sym (first-missed zeros line i (others l) h) ∙ ap (λ (k : Left). firstOf (got zeros k) (others l)) e
-
-  pub is-exact : (i j : ℕ) (s : Sown) → leftAt line i ≡ named z l → length line + 2 ≤ i → got s (leftAt line j) ≡ next (counted 0) exact l
-      → j < length line + 2 → got s (leftAt line j) ≡ seedOf l
-  is-exact i j s e h f k =
-      sym (first-found s line j (countedBy (numberOf 4294967295 l)) k) ∙
-      ap (λ (g : Got Sown). firstOf g (countedBy (numberOf 4294967295 l))) f ∙ no-zeros i e h
-
-  pub is-counted : (i j n k : ℕ) (s : Sown) → leftAt line i ≡ named z l → length line + 2 ≤ i → got s (leftAt line j) ≡ next (counted 0) exact l
-      → length line + 2 ≤ j → got n (leftAt line k) ≡ numberOf 4294967295 l → got (counted n) (leftAt line k) ≡ seedOf l
-  unfolding countedBy
-  is-counted i j n k s e h f m g =
-      ap countedBy g ∙ sym (first-missed s line j (countedBy (numberOf 4294967295 l)) m) ∙
-      ap (λ (g : Got Sown). firstOf g (countedBy (numberOf 4294967295 l))) f ∙ no-zeros i e h
-
--- A minus, or hex.
-module _ (line : List ℕ) (l : Left) where
-  pub no-file : (i : ℕ) → leftAt line i ≡ named minus l → i < length line + 2 → got (given []) (leftAt line i) ≡ fileOf l
-  unfolding fileOf
-  no-file i e h = sym (first-found (given []) line i _ h) ∙ ap (λ (k : Left). firstOf (got (given []) k) (next (counted 0) filled l)) e
-
-  pub a-file : (i : ℕ) → leftAt line i ≡ named minus l → length line + 2 ≤ i → next (counted 0) filled l ≡ fileOf l
-  unfolding fileOf
-  a-file i e h = sym (first-missed (given []) line i (next (counted 0) filled l) h) ∙ ap (λ (k : Left). firstOf (got (given []) k) (next (counted 0) filled l)) e
 
 pub no-letter : (line : List ℕ) (i : ℕ) → length line ≤ i → next (counted 0) filled (leftAt line i) ≡ got (counted 0) lost
 unfolding filled

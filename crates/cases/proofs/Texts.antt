@@ -10,10 +10,8 @@ use native.Mathlib.Numerals.{add-one, one-add}
 use lib.Dec.{ltb, lit≤}
 use mathlib.Core.Bool.{Bool, true, false, cond}
 use borrow.Author.Tests.{lt-ltb, le-ltb, ltb-false}
-use Rattle.cases.specs.Answer.{glyph, spelled, places, decimal, hex, nameText, statusText, imageText, foundText, hashText, placed, lineOf, answered}
+use Rattle.cases.specs.Answer.{glyph, spelled, places, number, statusText, foundText, placed, lineOf, answered}
 use Rattle.cases.specs.Place.{Wrote}
-use Rattle.cases.specs.declared.answer.Name.{Name}
-use Rattle.cases.specs.declared.answer.Name.the-variants.{Put, Get, Rect, Fill, Invert, Copy, Draw, Line, Arc, Pie, RoundRect, FillRoundRect, Lbmp}
 use Rattle.cases.specs.declared.answer.Found.{Found}
 use Rattle.cases.specs.declared.answer.Found.the-variants.{Count, Argb, Nothing, Image}
 use Rattle.cases.specs.declared.answer.Answer.{Answer}
@@ -71,82 +69,62 @@ unfolding placed spelled
 all-digits d at base zero n h e = e
 all-digits d at base (suc i) n h e = let z : ⊥ = omega arith in absurd z
 
--- A number of ten or more has one place more than its tenth.
-pub place-more : (k n : ℕ) → k < 20 → 10 ≤ n → places (20 - k) n ≡ 1 + places (20 - (k + 1)) (n / 10)
-unfolding places
-place-more k n h t =
-    let z : 20 - k ≡ suc (20 - (k + 1)) = omega arith in rw (z, le-ltb n 10 t) (sym (one-add (places (20 - (k + 1)) (n / 10))))
+-- A number of two digits or more has one place more than without its last.
+module _ (base k n : ℕ) where
+  pub place-more : k < 20 → base ≤ n → places base (20 - k) n ≡ 1 + places base (20 - (k + 1)) (n / base)
+  unfolding places
+  place-more h t =
+      let z : 20 - k ≡ suc (20 - (k + 1)) = omega arith in rw (z, le-ltb n base t) (sym (one-add (places base (20 - (k + 1)) (n / base))))
 
-pub place-last : (k n : ℕ) → k < 20 → n < 10 → places (20 - k) n ≡ 1
-unfolding places
-place-last k n h t = let z : 20 - k ≡ suc (20 - (k + 1)) = omega arith in rw (z, lt-ltb n 10 t)
+  pub place-last : k < 20 → n < base → places base (20 - k) n ≡ 1
+  unfolding places
+  place-last h t = let z : 20 - k ≡ suc (20 - (k + 1)) = omega arith in rw (z, lt-ltb n base t)
 
-pub place-end : (k n : ℕ) → 20 ≤ k → places (20 - k) n ≡ 1
-unfolding places
-place-end k n h = let z : 20 - k ≡ 0 = omega arith in rw z
+  pub place-end : 20 ≤ k → places base (20 - k) n ≡ 1
+  unfolding places
+  place-end h = let z : 20 - k ≡ 0 = omega arith in rw z
 
-pub answered-is : (a : Answer) (d d' : List ℕ) (r : ℕ) → 132 ≤ length d → Wrote (lineOf a) d 0 d' r → (r, d') ≡ answered a d
+pub answered-is : (a : Answer) (d d' : List ℕ) (r : ℕ) → 144 ≤ length d → Wrote (lineOf a) d 0 d' r → (r, d') ≡ answered a d
 unfolding answered
 answered-is a d d' r h w =
     let z : r ≡ length (lineOf a) = w .to ∙ zero-add (length (lineOf a)) in
-    let e : d' ≡ placed d 0 (lineOf a) = w .same in rw (le-ltb (length d) 132 h, z, e)
+    let e : d' ≡ placed d 0 (lineOf a) = w .same in rw (le-ltb (length d) 144 h, z, e)
 
--- No line is longer than 132 bytes.
-places-most : (k n : ℕ) → places k n ≤ k + 1
+-- No line is longer than 144 bytes.
+places-most : (base k n : ℕ) → places base k n ≤ k + 1
 unfolding places
-places-most zero n = omega arith
-places-most (suc k) n = fewer (ltb n 10) (places-most k (n / 10))
+places-most base zero n = omega arith
+places-most base (suc k) n = fewer (ltb n base) (places-most base k (n / base))
   where
-    fewer : (b : Bool) → places k (n / 10) ≤ k + 1 → cond b 1 (suc (places k (n / 10))) ≤ suc k + 1
+    fewer : (b : Bool) → places base k (n / base) ≤ k + 1 → cond b 1 (suc (places base k (n / base))) ≤ suc k + 1
     fewer true h = omega arith
     fewer false h = omega arith
 
-decimal-most : (n : ℕ) → length (decimal n) ≤ 20
-unfolding decimal
-decimal-most n = omega (arith, length-spelled 10 (places 19 n) n, places-most 19 n)
+number-most : (base n : ℕ) → length (number base n) ≤ 20
+unfolding number
+number-most base n = omega (arith, length-spelled base (places base 19 n) n, places-most base 19 n)
 
-name-most : (n : Name) → length (nameText n) ≤ 8
-unfolding nameText
-name-most Put = lit≤ tt
-name-most Get = lit≤ tt
-name-most Rect = lit≤ tt
-name-most Fill = lit≤ tt
-name-most Invert = lit≤ tt
-name-most Copy = lit≤ tt
-name-most Draw = lit≤ tt
-name-most Line = lit≤ tt
-name-most Arc = lit≤ tt
-name-most Pie = lit≤ tt
-name-most RoundRect = lit≤ tt
-name-most FillRoundRect = lit≤ tt
-name-most Lbmp = lit≤ tt
-
-status-most : (n : ℕ) → length (statusText n) ≤ 28
+status-most : (a : Answer) → length (statusText a) ≤ 48
 unfolding statusText
-status-most n = rw length-append (omega (arith, decimal-most n))
+status-most a = simp length-append (omega (arith, number-most 256 (a .name), number-most 10 (a .status)))
 
 found-most : (f : Found) → length (foundText f) ≤ 73
-unfolding foundText imageText
-found-most (Count n) = rw length-append (omega (arith, decimal-most n))
-found-most (Argb n) = rw length-append (omega (arith, decimal-most n))
+unfolding foundText
+found-most (Count n) = rw length-append (omega (arith, number-most 10 n))
+found-most (Argb n) = rw length-append (omega (arith, number-most 10 n))
 found-most Nothing = lit≤ tt
-found-most (Image w h clear) = simp length-append (omega (arith, decimal-most w, decimal-most h, decimal-most clear))
+found-most (Image w h clear) = simp length-append (omega (arith, number-most 10 w, number-most 10 h, number-most 10 clear))
 
-hash-is : (h : ℕ) → length (hashText h) ≡ 23
-unfolding hashText hex
-hash-is h = rw (length-append, length-append, length-spelled 16 16 h)
-
-line-most : (a : Answer) → length (lineOf a) ≤ 132
+line-most : (a : Answer) → length (lineOf a) ≤ 144
 unfolding lineOf
 line-most a =
-    simp length-append
-    (omega (arith, name-most (a .name), status-most (a .status), found-most (a .found), hash-is (a .hash)))
+    simp length-append (omega (arith, status-most a, found-most (a .found), length-spelled 16 16 (a .hash)))
 
 -- So what `write` answers is within the buffer.
 pub answered-within : (a : Answer) (d : List ℕ) → answered a d .0 ≤ length d
 unfolding answered
-answered-within a d = within (ltb (length d) 132) (ltb-false (length d) 132)
+answered-within a d = within (ltb (length d) 144) (ltb-false (length d) 144)
   where
-    within : (b : Bool) → (b ≡ false → 132 ≤ length d) → cond {A = ℕ × List ℕ} b (0, d) (length (lineOf a), placed d 0 (lineOf a)) .0 ≤ length d
+    within : (b : Bool) → (b ≡ false → 144 ≤ length d) → cond {A = ℕ × List ℕ} b (0, d) (length (lineOf a), placed d 0 (lineOf a)) .0 ≤ length d
     within true h = omega arith
     within false h = omega (arith, h refl, line-most a)

@@ -4,79 +4,54 @@ use mathlib.Core.List.{List, [], _∷_, _++_}
 use Prim.Native.Nat.{ℕ, zero, suc, _+_, _/_, _%_}
 use lib.Dec.{ltb}
 use lib.ListN.{length, set}
-use Rattle.cases.specs.Call.{put, get, rect, fill, invert, copy, draw, line, arc, pie, rrect, frrect, lbmp}
-use Rattle.cases.specs.declared.answer.Name.{Name}
-use Rattle.cases.specs.declared.answer.Name.the-variants.{Put, Get, Rect, Fill, Invert, Copy, Draw, Line, Arc, Pie, RoundRect, FillRoundRect, Lbmp}
 use Rattle.cases.specs.declared.answer.Found.{Found}
 use Rattle.cases.specs.declared.answer.Found.the-variants.{Count, Argb, Nothing, Image}
 use Rattle.cases.specs.declared.answer.Answer.{Answer}
 
--- 0 to 9, then a to f.
+-- 0 to 9, then a to f; above them each byte for itself.
 unfoldable pub glyph : ℕ → ℕ
-glyph d = cond (ltb d 10) (48 + d) (87 + d)
+glyph d = cond (ltb d 10) (48 + d) (cond (ltb d 16) (87 + d) d)
 
 -- The last k digits of n, the highest first.
 unfoldable pub spelled : ℕ → ℕ → ℕ → List ℕ
 spelled base zero n = []
 spelled base (suc k) n = spelled base k (n / base) ++ (glyph (n % base) ∷ [])
 
--- How many decimal digits n has, up to k more than one.
-unfoldable pub places : ℕ → ℕ → ℕ
-places zero n = 1
-places (suc k) n = cond (ltb n 10) 1 (suc (places k (n / 10)))
+-- How many digits n has, up to k more than one.
+unfoldable pub places : ℕ → ℕ → ℕ → ℕ
+places base zero n = 1
+places base (suc k) n = cond (ltb n base) 1 (suc (places base k (n / base)))
 
--- No u64 has more than 20.
-unfoldable pub decimal : ℕ → List ℕ
-decimal n = spelled 10 (places 19 n) n
+-- No u64 has more than 20 decimal digits.
+unfoldable pub number : ℕ → ℕ → List ℕ
+number base n = spelled base (places base 19 n) n
 
--- "in 16 hex digits"
-unfoldable pub hex : ℕ → List ℕ
-hex n = spelled 16 16 n
+abbrev pub decimal : ℕ → List ℕ
+decimal n = number 10 n
 
-unfoldable pub nameText : Name → List ℕ
-nameText Put = put
-nameText Get = get
-nameText Rect = rect
-nameText Fill = fill
-nameText Invert = invert
-nameText Copy = copy
-nameText Draw = draw
-nameText Line = line
-nameText Arc = arc
-nameText Pie = pie
-nameText RoundRect = rrect
-nameText FillRoundRect = frrect
-nameText Lbmp = lbmp
-
--- "`lbmp` has `w=N h=N clear=N` in the place of count."
-unfoldable pub imageText : ℕ → ℕ → ℕ → List ℕ
-imageText w h clear =
-    (((32 ∷ 119 ∷ 61 ∷ []) ++ decimal w) ++ ((32 ∷ 104 ∷ 61 ∷ []) ++ decimal h))
-    ++ ((32 ∷ 99 ∷ 108 ∷ 101 ∷ 97 ∷ 114 ∷ 61 ∷ []) ++ decimal clear)
-
--- "count=N"; "`get` has `argb=N` in the place of count, or `none`."
+-- "count=N"; "`get` has `argb=N` or `none` in the place of count; `lbmp` has `w=N h=N clear=N` there"
 unfoldable pub foundText : Found → List ℕ
 foundText (Count n) = (32 ∷ 99 ∷ 111 ∷ 117 ∷ 110 ∷ 116 ∷ 61 ∷ []) ++ decimal n
 foundText (Argb n) = (32 ∷ 97 ∷ 114 ∷ 103 ∷ 98 ∷ 61 ∷ []) ++ decimal n
 foundText Nothing = 32 ∷ 110 ∷ 111 ∷ 110 ∷ 101 ∷ []
-foundText (Image w h clear) = imageText w h clear
+foundText (Image w h clear) =
+    (((32 ∷ 119 ∷ 61 ∷ []) ++ decimal w) ++ ((32 ∷ 104 ∷ 61 ∷ []) ++ decimal h))
+    ++ ((32 ∷ 99 ∷ 108 ∷ 101 ∷ 97 ∷ 114 ∷ 61 ∷ []) ++ decimal clear)
 
--- "status=N"
-unfoldable pub statusText : ℕ → List ℕ
-statusText n = (32 ∷ 115 ∷ 116 ∷ 97 ∷ 116 ∷ 117 ∷ 115 ∷ 61 ∷ []) ++ decimal n
+-- "OP status=N"; the name is a number of 256 letters.
+unfoldable pub statusText : Answer → List ℕ
+statusText a = number 256 (a .name) ++ ((32 ∷ 115 ∷ 116 ∷ 97 ∷ 116 ∷ 117 ∷ 115 ∷ 61 ∷ []) ++ decimal (a .status))
 
--- "hash=H", and the line's end
-unfoldable pub hashText : ℕ → List ℕ
-hashText h = ((32 ∷ 104 ∷ 97 ∷ 115 ∷ 104 ∷ 61 ∷ []) ++ hex h) ++ (10 ∷ [])
-
+-- "hash=H", "in 16 hex digits", and the line's end
 unfoldable pub lineOf : Answer → List ℕ
-lineOf a = ((nameText (a .name) ++ statusText (a .status)) ++ foundText (a .found)) ++ hashText (a .hash)
+lineOf a =
+    (((statusText a ++ foundText (a .found)) ++ (32 ∷ 104 ∷ 97 ∷ 115 ∷ 104 ∷ 61 ∷ [])) ++ spelled 16 16 (a .hash)) ++ (10 ∷ [])
 
 -- A text put at a place of a buffer, byte by byte.
 unfoldable pub placed : List ℕ → ℕ → List ℕ → List ℕ
 placed d at [] = d
 placed d at (b ∷ t) = placed (set d at b) (at + 1) t
 
--- What answering leaves and answers: with less than 132 bytes lent, nothing.
+-- What answering leaves and answers: with less than 144 bytes lent, nothing.
 unfoldable pub answered : Answer → List ℕ → ℕ × List ℕ
-answered a d = cond (ltb (length d) 132) (0, d) (length (lineOf a), placed d 0 (lineOf a))
+answered a d = cond (ltb (length d) 144) (0, d) (length (lineOf a), placed d 0 (lineOf a))

@@ -1,35 +1,28 @@
--- "One case a line": F W H X SEED OP ARGS.
+-- "F W H X SEED OP ARGS.."
 use mathlib.Core.Bool.{cond}
 use mathlib.Core.List.{List, [], _∷_, _++_}
-use Prim.Native.Nat.{ℕ, _*_}
+use Prim.Native.Nat.{ℕ, _+_, _*_}
 use lib.Dec.{eqb, ltb, leb}
-use lib.ListN.{length, drop}
-use Rattle.canvas.specs.declared.Canvas.{Canvas}
-use Rattle.words.specs.Format.{formatOf, bytesPerPixel}
-use Rattle.cases.specs.Line.{Left, words, lost, Value, value, none, Got, got, wordsOf}
-use Rattle.cases.specs.Number.{numberOf}
-use Rattle.cases.specs.Args.{screenOf}
-use Rattle.cases.specs.Call.{Asked, rowOf}
-use Rattle.cases.specs.Seed.{Sown, zeros, counted, given, seedOf, firstBytes}
+use lib.ListN.{length, drop, getD, replicate}
+use Rattle.cases.specs.Line.{Left, words, lost, Value, value, none, Got, wordsOf}
+use Rattle.cases.specs.Number.{nameOf}
+use Rattle.cases.specs.Row.{Args, head, rowOf, argsOf}
+use Rattle.cases.specs.Seed.{Sown, zeros, counted, given, firstBytes}
 use Rattle.cases.specs.declared.case.Case.{Case}
-use Rattle.cases.specs.declared.case.Case.the-variants.{Bad, Of}
 
--- "F: format number. W, H: sides. X: 1 for XOR on, 0 for off."
-unfoldable pub headOf : Left → Got Canvas
-headOf l =
-    let v = screenOf l in
-    let x = numberOf 1 (v .left) in
-    got (record { format = v .value .format; width = v .value .width; height = v .value .height; xor = eqb (x .value) 1 }) (x .left)
+-- How many bytes a pixel has, by format; what is no format has none.
+unfoldable pub pixel : ℕ → ℕ
+pixel f = cond (eqb f 0) 1 (cond (eqb f 1) 2 (cond (ltb f 5) 4 0))
 
 -- A canvas of a known format has its exact bytes.
-unfoldable pub exactly : Canvas → Value ℕ
-exactly v = cond (ltb (v .format) 5) (value (v .width * v .height * bytesPerPixel (formatOf (v .format)))) none
+unfoldable pub exactly : ℕ → ℕ → ℕ → Value ℕ
+exactly f w h = cond (eqb (pixel f) 0) none (value (w * h * pixel f))
 
--- How many bytes are lent: those that hex gives, "so LENGTH can be tried"; else the canvas's.
-unfoldable pub lent : Canvas → Sown → Value ℕ
-lent v zeros = exactly v
-lent v (counted s) = exactly v
-lent v (given bs) = value (length bs)
+-- How many bytes are lent: those that hex gives, "which may have the wrong length"; else the canvas's.
+unfoldable pub lent : ℕ → ℕ → ℕ → Sown → Value ℕ
+lent f w h zeros = exactly f w h
+lent f w h (counted s) = exactly f w h
+lent f w h (given bs) = value (length bs)
 
 -- So many bytes, if there is room for them.
 unfoldable pub fitting : ℕ → ℕ → Value ℕ
@@ -39,7 +32,7 @@ unfoldable pub capped : ℕ → Value ℕ → Value ℕ
 capped room (value n) = fitting room n
 capped room none = none
 
--- A call has exactly the words of its row.
+-- "exactly the words of its op"
 unfoldable pub whole : {A : Type 0} → Left → A → A → A
 whole (words []) a b = a
 whole (words (w ∷ ws)) a b = b
@@ -49,19 +42,35 @@ whole lost a b = b
 abbrev pub Outcome : Type 0
 Outcome = Case × List ℕ × List ℕ
 
+abbrev pub noCase : Case
+noCase = record { name = 0; head = replicate 16 0; args = replicate 16 0; bytes = 0; image = 0 }
+
 -- The first bytes of each stand at the start of the bytes lent; without room for them the case is bad, and what is lent
 -- stays.
-unfoldable pub laid : Canvas → Sown → Asked → Value ℕ → Value ℕ → List ℕ → List ℕ → Outcome
-laid v s a (value n) (value m) bytes image = (Of v n (a .call) m, firstBytes s n ++ drop n bytes, firstBytes (a .seed) m ++ drop m image)
-laid v s a (value n) none bytes image = (Bad, bytes, image)
-laid v s a none m bytes image = (Bad, bytes, image)
+unfoldable pub laid : ℕ → Args → Args → Value ℕ → Value ℕ → List ℕ → List ℕ → Outcome
+laid op h r (value n) (value m) bytes image =
+    (record { name = op; head = h .numbers; args = r .numbers; bytes = n; image = m },
+    firstBytes (h .seed) n ++ drop n bytes,
+    firstBytes (r .seed) m ++ drop m image)
+laid op h r (value n) none bytes image = (noCase, bytes, image)
+laid op h r none m bytes image = (noCase, bytes, image)
 
-unfoldable pub called : Canvas → Sown → Got Asked → List ℕ → List ℕ → Outcome
-called v s a bytes image =
-    whole (a .left)
-    (laid v s (a .value) (capped (length bytes) (lent v s)) (capped (length image) (lent (a .value .source) (a .value .seed))) bytes image)
-    (Bad, bytes, image)
+-- The seed's canvas is the format and sides that stand before it: F W H, and SF SW SH.
+abbrev pub lentAt : ℕ → ℕ → Args → Value ℕ
+lentAt room i g = capped room (lent (getD (g .numbers) i 0) (getD (g .numbers) (i + 1) 0) (getD (g .numbers) (i + 2) 0) (g .seed))
+
+unfoldable pub called : ℕ → Args → Got Args → List ℕ → List ℕ → Outcome
+called op h r bytes image =
+    whole (r .left) (laid op h (r .value) (lentAt (length bytes) 0 h) (lentAt (length image) 4 (r .value)) bytes image) (noCase, bytes, image)
+
+-- What has no row is bad.
+unfoldable pub known : {A : Type 0} → List ℕ → A → A → A
+known [] a b = b
+known (k ∷ ks) a b = a
 
 unfoldable pub caseOf : List ℕ → List ℕ → List ℕ → Outcome
 caseOf line bytes image =
-    let v = headOf (wordsOf line) in let s = seedOf (v .left) in called (v .value) (s .value) (rowOf (s .left)) bytes image
+    let h = argsOf head (wordsOf line) in
+    let op = nameOf (h .left) in
+    let row = rowOf (op .value) in
+    known row (called (op .value) (h .value) (argsOf row (op .left)) bytes image) (noCase, bytes, image)

@@ -1,8 +1,7 @@
 pub mod Line
 pub mod Number
-pub mod Args
 pub mod Seed
-pub mod Call
+pub mod Row
 pub mod Case
 pub mod Hash
 pub mod Answer

@@ -1,10 +1,9 @@
 -- The words of a case that are numbers or names.
 use mathlib.Core.Bool.{Bool, false, cond}
 use mathlib.Core.List.{List, [], _∷_}
-use Prim.Native.Nat.{ℕ, _+_, _-_, _*_}
+use Prim.Native.Nat.{ℕ, _+_, _-_, _*_, _%_}
 use lib.Dec.{eqb, leb}
-use lib.IntN.{ℤ, pos, negℤ}
-use Rattle.cases.specs.Line.{Left, Value, value, none, Got, got, next, firstOf}
+use Rattle.cases.specs.Line.{Left, Value, value, none, Got, next, firstOf}
 
 -- A digit, after which the value is still at most so much.
 unfoldable pub accepts : ℕ → ℕ → ℕ → Bool
@@ -20,35 +19,29 @@ unfoldable pub natural : ℕ → List ℕ → Value ℕ
 natural most [] = none
 natural most (b ∷ w) = digits most 0 (b ∷ w)
 
--- A minus, and a number of at most 2^31.
-unfoldable pub minus : Value ℕ → Value ℤ
-minus (value n) = value (negℤ (pos n))
+-- A minus, and a number of at most 2^31; the 32 bits that an i32 has.
+unfoldable pub minus : Value ℕ → Value ℕ
+minus (value n) = value ((4294967296 - n) % 4294967296)
 minus none = none
 
-unfoldable pub negative : List ℕ → Value ℤ
+unfoldable pub negative : List ℕ → Value ℕ
 negative [] = none
 negative (b ∷ w) = cond (eqb b 45) (minus (natural 2147483648 w)) none
 
 unfoldable pub numberOf : ℕ → Left → Got ℕ
 numberOf most = next 0 (natural most)
 
-unfoldable pub positive : Got ℕ → Got ℤ
-positive g = got (pos (g .value)) (g .left)
+unfoldable pub negativeOf : Left → Got ℕ
+negativeOf = next 0 negative
 
-unfoldable pub negativeOf : Left → Got ℤ
-negativeOf = next (pos 0) negative
+-- A number that an i32 holds, by its bits.
+unfoldable pub signedOf : Left → Got ℕ
+signedOf l = firstOf (numberOf 2147483647 l) (negativeOf l)
 
--- A number that an i32 holds.
-unfoldable pub signedOf : Left → Got ℤ
-signedOf l = firstOf (positive (numberOf 2147483647 l)) (negativeOf l)
+-- A name by its letters, the first one highest: at most seven, and none of them 0.
+unfoldable pub letters : ℕ → List ℕ → Value ℕ
+letters v [] = value v
+letters v (b ∷ w) = cond (eqb b 0) none (cond (leb v 281474976710655) (letters (v * 256 + b) w) none)
 
--- A word that is a name.
-unfoldable pub is : List ℕ → List ℕ → Value ℕ
-is [] [] = value 0
-is [] (b ∷ w) = none
-is (a ∷ n) [] = none
-is (a ∷ n) (b ∷ w) = cond (eqb b a) (is n w) none
-
--- What is left after that name.
-unfoldable pub named : List ℕ → Left → Left
-named n l = next 0 (is n) l .left
+unfoldable pub nameOf : Left → Got ℕ
+nameOf = next 0 (letters 0)

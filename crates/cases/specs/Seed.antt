@@ -4,8 +4,8 @@ use mathlib.Core.List.{List, [], _∷_, _++_}
 use Prim.Native.Nat.{ℕ, zero, suc, _+_, _-_, _*_, _/_, _%_}
 use lib.Dec.{eqb, ltb}
 use lib.ListN.{replicate}
-use Rattle.cases.specs.Line.{Left, Value, value, none, Got, got, next, firstOf}
-use Rattle.cases.specs.Number.{numberOf, named}
+use Rattle.cases.specs.Line.{Left, Value, value, none, Got, got, next}
+use Rattle.cases.specs.Number.{natural, nameOf}
 
 pub data Sown : Type 0 where
   zeros : Sown
@@ -38,23 +38,18 @@ givenBy none = none
 unfoldable pub givenHex : List ℕ → Value Sown
 givenHex w = givenBy (hexes w)
 
--- "`x` and then hex"
-unfoldable pub exact : List ℕ → Value Sown
-exact [] = none
-exact (b ∷ w) = cond (eqb b 120) (givenHex w) none
+unfoldable pub countedBy : Value ℕ → Value Sown
+countedBy (value n) = value (counted n)
+countedBy none = none
 
-unfoldable pub countedBy : Got ℕ → Got Sown
-countedBy g = got (counted (g .value)) (g .left)
+-- "A number s: .. `x` and then hex"
+unfoldable pub sowing : List ℕ → Value Sown
+sowing [] = none
+sowing (b ∷ w) = cond (eqb b 120) (givenHex w) (countedBy (natural 4294967295 (b ∷ w)))
 
-abbrev pub z : List ℕ
-z = 122 ∷ []
-
--- "`z`: zeros. A number s: .. `x` and then hex"
+-- "`z`: zeros."
 unfoldable pub seedOf : Left → Got Sown
-seedOf l = firstOf (got zeros (named z l)) (firstOf (next (counted 0) exact l) (countedBy (numberOf 4294967295 l)))
-
-abbrev pub minus : List ℕ
-minus = 45 ∷ []
+seedOf l = let z = nameOf l in cond (eqb (z .value) 122) (got zeros (z .left)) (next (counted 0) sowing l)
 
 unfoldable pub filled : List ℕ → Value Sown
 filled [] = none
@@ -62,7 +57,7 @@ filled (b ∷ w) = givenHex (b ∷ w)
 
 -- "the file's bytes, `-` for none"
 unfoldable pub fileOf : Left → Got Sown
-fileOf l = firstOf (got (given []) (named minus l)) (next (counted 0) filled l)
+fileOf l = let m = nameOf l in cond (eqb (m .value) 45) (got (given []) (m .left)) (next (counted 0) filled l)
 
 -- "for each byte in turn s = s*1664525 + 1013904223 mod 2^32, and the byte is s >> 24"
 abbrev pub turned : ℕ → ℕ

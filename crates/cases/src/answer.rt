@@ -3,25 +3,9 @@ ghost use mathlib.Core.Path.{_≡_};
 ghost use Prim.Native.Nat.{_≤_, _<_, _+_};
 ghost use mathlib.Core.List.{_++_};
 ghost use lib.ListN.{length};
-ghost use Rattle.cases.specs.Answer.{spelled, decimal, nameText, imageText, foundText, hashText, answered};
+ghost use Rattle.cases.specs.Answer.{spelled, number, foundText, answered};
 ghost use Rattle.cases.specs.Place.{Wrote};
 ghost use Rattle.cases.specs.Answer.{glyph as glyphOf, places as placesOf};
-
-pub enum Name {
-    Put,
-    Get,
-    Rect,
-    Fill,
-    Invert,
-    Copy,
-    Draw,
-    Line,
-    Arc,
-    Pie,
-    RoundRect,
-    FillRoundRect,
-    Lbmp,
-}
 
 // What a call found: how many plots landed, a colour, nothing, or an image's sides and how many of its pixels are clear.
 pub enum Found {
@@ -31,8 +15,9 @@ pub enum Found {
     Image { w: u32, h: u32, clear: u64 },
 }
 
+// The name is its letters, as a case has it.
 pub struct Answer {
-    pub name: Name,
+    pub name: u64,
     pub status: u32,
     pub found: Found,
     pub hash: u64,
@@ -51,19 +36,23 @@ fn put_text(out: &mut [u8], at: usize, t: &[u8]) -> usize
     at + i
 }
 
+// Ten digits, six letters, and above them each byte for itself.
 fn glyph(d: u64) -> u8
-    requires { ⌜ d < 16 ⌝ }
+    requires { ⌜ d < 256 ⌝ }
     ensures { λ r. ⌜ r ≡ glyphOf d ⌝ }
 {
     if d < 10 {
         return 48 + d as u8;
     }
-    87 + d as u8
+    if d < 16 {
+        return 87 + d as u8;
+    }
+    d as u8
 }
 
 // Puts the last k digits of n at a place of out, and answers the place after them.
 fn put_digits(out: &mut [u8], at: usize, base: u64, k: usize, n: u64) -> usize
-    requires { ⌜ (1 < base) × (base ≤ 16) ⌝ }
+    requires { ⌜ (1 < base) × (base ≤ 256) ⌝ }
     requires { ⌜ at + k ≤ length (now out) ⌝ }
     ensures { λ r. ⌜ Wrote (spelled base k n) (now (out .entry)) at (now (out .exit)) r ⌝ }
 {
@@ -77,72 +66,34 @@ fn put_digits(out: &mut [u8], at: usize, base: u64, k: usize, n: u64) -> usize
     at + k
 }
 
-// How many decimal digits n has, at most 20.
-fn places(n: u64) -> usize
-    ensures { λ r. ⌜ r ≡ placesOf 19 n ⌝ }
+// How many digits n has, up to 20.
+fn places(base: u64, n: u64) -> usize
+    requires { ⌜ 1 < base ⌝ }
+    ensures { λ r. ⌜ r ≡ placesOf base 19 n ⌝ }
     ensures { λ r. ⌜ r ≤ 20 ⌝ }
 {
     let mut k = 1;
     let mut rest = n;
     while k < 20 {
-        if rest < 10 {
+        if rest < base {
             return k;
         }
-        rest = rest / 10;
+        rest = rest / base;
         k += 1;
     }
     k
 }
 
-fn put_decimal(out: &mut [u8], at: usize, n: u64) -> usize
-    requires { ⌜ at + 20 ≤ length (now out) ⌝ }
-    ensures { λ r. ⌜ Wrote (decimal n) (now (out .entry)) at (now (out .exit)) r ⌝ }
-    ensures { λ r. ⌜ r ≤ at + 20 ⌝ }
-{
-    let k = places(n);
-    put_digits(out, at, 10, k, n)
-}
-
 // Puts a label and a number.
-fn put_field(out: &mut [u8], at: usize, label: &[u8], n: u64) -> usize
+fn put_field(out: &mut [u8], at: usize, label: &[u8], base: u64, n: u64) -> usize
+    requires { ⌜ (1 < base) × (base ≤ 256) ⌝ }
     requires { ⌜ at + length (now label) + 20 ≤ length (now out) ⌝ }
-    ensures { λ r. ⌜ Wrote (now (label .entry) ++ decimal n) (now (out .entry)) at (now (out .exit)) r ⌝ }
+    ensures { λ r. ⌜ Wrote (now (label .entry) ++ number base n) (now (out .entry)) at (now (out .exit)) r ⌝ }
     ensures { λ r. ⌜ r ≤ at + length (now (label .entry)) + 20 ⌝ }
 {
-    let k = put_text(out, at, label);
-    put_decimal(out, k, n)
-}
-
-fn put_name(out: &mut [u8], n: Name) -> usize
-    requires { ⌜ 8 ≤ length (now out) ⌝ }
-    ensures { λ r. ⌜ Wrote (nameText n) (now (out .entry)) 0 (now (out .exit)) r ⌝ }
-    ensures { λ r. ⌜ r ≤ 8 ⌝ }
-{
-    match n {
-        Name::Put => put_text(out, 0, b"put"),
-        Name::Get => put_text(out, 0, b"get"),
-        Name::Rect => put_text(out, 0, b"rect"),
-        Name::Fill => put_text(out, 0, b"fill"),
-        Name::Invert => put_text(out, 0, b"invert"),
-        Name::Copy => put_text(out, 0, b"copy"),
-        Name::Draw => put_text(out, 0, b"draw"),
-        Name::Line => put_text(out, 0, b"line"),
-        Name::Arc => put_text(out, 0, b"arc"),
-        Name::Pie => put_text(out, 0, b"pie"),
-        Name::RoundRect => put_text(out, 0, b"rrect"),
-        Name::FillRoundRect => put_text(out, 0, b"frrect"),
-        Name::Lbmp => put_text(out, 0, b"lbmp"),
-    }
-}
-
-fn put_image(out: &mut [u8], at: usize, w: u32, h: u32, clear: u64) -> usize
-    requires { ⌜ at + 73 ≤ length (now out) ⌝ }
-    ensures { λ r. ⌜ Wrote (imageText w h clear) (now (out .entry)) at (now (out .exit)) r ⌝ }
-    ensures { λ r. ⌜ r ≤ at + 73 ⌝ }
-{
-    let a = put_field(out, at, b" w=", w as u64);
-    let b = put_field(out, a, b" h=", h as u64);
-    put_field(out, b, b" clear=", clear)
+    let from = put_text(out, at, label);
+    let k = places(base, n);
+    put_digits(out, from, base, k, n)
 }
 
 fn put_found(out: &mut [u8], at: usize, f: Found) -> usize
@@ -151,35 +102,30 @@ fn put_found(out: &mut [u8], at: usize, f: Found) -> usize
     ensures { λ r. ⌜ r ≤ at + 73 ⌝ }
 {
     match f {
-        Found::Count(n) => put_field(out, at, b" count=", n),
-        Found::Argb(n) => put_field(out, at, b" argb=", n as u64),
+        Found::Count(n) => put_field(out, at, b" count=", 10, n),
+        Found::Argb(n) => put_field(out, at, b" argb=", 10, n as u64),
         Found::Nothing => put_text(out, at, b" none"),
-        Found::Image { w, h, clear } => put_image(out, at, w, h, clear),
+        Found::Image { w, h, clear } => {
+            let a = put_field(out, at, b" w=", 10, w as u64);
+            let b = put_field(out, a, b" h=", 10, h as u64);
+            put_field(out, b, b" clear=", 10, clear)
+        }
     }
 }
 
-// Puts the hash and the line's end.
-fn put_hash(out: &mut [u8], at: usize, h: u64) -> usize
-    requires { ⌜ at + 23 ≤ length (now out) ⌝ }
-    ensures { λ r. ⌜ Wrote (hashText h) (now (out .entry)) at (now (out .exit)) r ⌝ }
-{
-    let a = put_text(out, at, b" hash=");
-    let b = put_digits(out, a, 16, 16, h);
-    put_text(out, b, b"\n")
-}
-
-// Puts the line that answers at the start of out, and answers its length. With less than 132 bytes lent it does
+// Puts the line that answers at the start of out, and answers its length. With less than 144 bytes lent it does
 // nothing, and answers 0.
 pub fn write(answer: Answer, out: &mut [u8]) -> usize
     ensures { λ r. ⌜ (r, now (out .exit)) ≡ answered answer (now (out .entry)) ⌝ }
 {
-    if out.len() < 132 {
+    if out.len() < 144 {
         return 0;
     }
-    let n = answer.name;
     let f = answer.found;
-    let a = put_name(out, n);
-    let b = put_field(out, a, b" status=", answer.status as u64);
+    let a = put_field(out, 0, b"", 256, answer.name);
+    let b = put_field(out, a, b" status=", 10, answer.status as u64);
     let c = put_found(out, b, f);
-    put_hash(out, c, answer.hash)
+    let d = put_text(out, c, b" hash=");
+    let e = put_digits(out, d, 16, 16, answer.hash);
+    put_text(out, e, b"\n")
 }

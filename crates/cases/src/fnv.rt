@@ -1,6 +1,7 @@
 // The 64-bit FNV-1a.
 ghost use mathlib.Core.Path.{_≡_};
 ghost use Rattle.cases.specs.Hash.{stirred, hashFrom, hashOf, bytesOf, allBytes};
+use crate::number::wide;
 
 // The hash of nothing.
 const BASIS: u64 = 14695981039346656037;
@@ -14,12 +15,6 @@ fn times(h: u64) -> u64
     let l = low * 435;
     let u = (l / 4294967296 + high * 435 + low * 256) % 4294967296;
     u * 4294967296 + l % 4294967296
-}
-
-fn wide(b: u8) -> u64
-    ensures { λ r. ⌜ r ≡ b ⌝ }
-{
-    b as u64
 }
 
 pub fn hash(bytes: &[u8]) -> u64

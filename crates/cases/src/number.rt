@@ -1,13 +1,11 @@
 // Words and numbers of a line. A place is an index of the line at which a word begins; one past the line's end no word
 // is left, and beyond that reading is lost.
 ghost use mathlib.Core.Path.{_≡_};
-ghost use Prim.Native.Nat.{_≤_};
-ghost use mathlib.Core.List.{[]};
+ghost use Prim.Native.Nat.{_≤_, _<_};
 ghost use lib.ListN.{length};
 ghost use Rattle.cases.specs.Line.{next};
-ghost use Rattle.cases.specs.Place.{leftAt, read, readSigned};
-ghost use Rattle.cases.specs.Number.{numberOf, signedOf, negativeOf};
-ghost use Rattle.cases.specs.Number.{named as namedBy};
+ghost use Rattle.cases.specs.Place.{leftAt, read, readName};
+ghost use Rattle.cases.specs.Number.{numberOf, signedOf, nameOf};
 ghost use Rattle.cases.specs.Number.{digits as digitsOf};
 
 pub(crate) struct Number {
@@ -15,13 +13,15 @@ pub(crate) struct Number {
     pub next: usize,
 }
 
-pub(crate) struct Signed {
-    pub value: i32,
+// The letters of a word as a number, the first one highest.
+pub(crate) struct Name {
+    pub letters: u64,
     pub next: usize,
 }
 
-fn wide(b: u8) -> u64
+pub(crate) fn wide(b: u8) -> u64
     ensures { λ r. ⌜ r ≡ b ⌝ }
+    ensures { λ r. ⌜ r < 256 ⌝ }
 {
     b as u64
 }
@@ -90,77 +90,63 @@ fn digits(line: &[u8], at: usize, most: u32) -> Number
     }
 }
 
-// The number at a place, with or without a minus, if an i32 holds it.
-pub(crate) fn read_signed(line: &[u8], at: usize) -> Signed
-    ensures { λ r. ⌜ readSigned (now (line .entry)) r ≡ signedOf (leftAt (now (line .entry)) at) ⌝ }
+// The number at a place, with or without a minus, if an i32 holds it: the 32 bits that it has there.
+pub(crate) fn read_signed(line: &[u8], at: usize) -> Number
+    ensures { λ r. ⌜ read (now (line .entry)) r ≡ signedOf (leftAt (now (line .entry)) at) ⌝ }
 {
     let n = read_number(line, at, 2147483647);
     if n.next < line.len() + 2 {
-        return Signed {
-            value: n.value as i32,
-            next: n.next,
-        };
+        return n;
     }
-    read_negative(line, at)
-}
-
-// A minus at a place, and a number.
-fn read_negative(line: &[u8], at: usize) -> Signed
-    ensures { λ r. ⌜ readSigned (now (line .entry)) r ≡ negativeOf (leftAt (now (line .entry)) at) ⌝ }
-{
+    let lost = Number {
+        value: 0,
+        next: line.len() + 2,
+    };
     if line.len() <= at {
-        return Signed {
-            value: 0,
-            next: line.len() + 2,
-        };
+        return lost;
     }
     if line[at] != 45 {
-        return Signed {
-            value: 0,
-            next: line.len() + 2,
-        };
+        return lost;
     }
-    let n = read_number(line, at + 1, 2147483648);
-    Signed {
-        value: (0 - n.value as i64) as i32,
-        next: n.next,
+    let m = read_number(line, at + 1, 2147483648);
+    Number {
+        value: ((4294967296 - m.value as u64) % 4294967296) as u32,
+        next: m.next,
     }
 }
 
-// The place after the word at a place, if that word is the name.
-pub(crate) fn named(line: &[u8], at: usize, name: &[u8]) -> usize
-    ensures { λ r. ⌜ leftAt (now (line .entry)) r ≡ namedBy (now (name .entry)) (leftAt (now (line .entry)) at) ⌝ }
+// The name at a place: at most seven letters, none of them 0.
+pub(crate) fn read_name(line: &[u8], at: usize) -> Name
+    ensures { λ r. ⌜ readName (now (line .entry)) r ≡ nameOf (leftAt (now (line .entry)) at) ⌝ }
 {
-    let mut i = at;
-    let mut k = 0;
-    while k < name.len() {
-        if line.len() <= i {
-            return line.len() + 2;
-        }
-        if line[i] == 32 {
-            return line.len() + 2;
-        }
-        if line[i] != name[k] {
-            return line.len() + 2;
-        }
-        i += 1;
-        k += 1;
-    }
-    word_end(line, i)
-}
-
-// The place after a word, if it ends at a place.
-fn word_end(line: &[u8], at: usize) -> usize
-    ensures { λ r. ⌜ leftAt (now (line .entry)) r ≡ namedBy [] (leftAt (now (line .entry)) at) ⌝ }
-{
+    let lost = Name {
+        letters: 0,
+        next: line.len() + 2,
+    };
     if line.len() < at {
-        return line.len() + 2;
+        return lost;
     }
-    if at == line.len() {
-        return at + 1;
+    let mut letters: u64 = 0;
+    let mut i = at;
+    while i < line.len() {
+        let b = wide(line[i]);
+        if b == 32 {
+            return Name {
+                letters,
+                next: i + 1,
+            };
+        }
+        if b == 0 {
+            return lost;
+        }
+        if 281474976710655 < letters {
+            return lost;
+        }
+        letters = letters * 256 + b;
+        i += 1;
     }
-    if line[at] != 32 {
-        return line.len() + 2;
+    Name {
+        letters,
+        next: i + 1,
     }
-    at + 1
 }

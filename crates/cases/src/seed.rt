@@ -4,9 +4,9 @@ ghost use Prim.Native.Nat.{_≤_, _+_, _*_};
 ghost use lib.ListN.{length, replicate};
 ghost use Rattle.cases.specs.Line.{next};
 ghost use Rattle.cases.specs.Place.{leftAt, readSeed, Within, Fills, sown, pairs};
-ghost use Rattle.cases.specs.Seed.{seedOf, exact, counted, givenHex, fileOf, firstBytes, turns};
+ghost use Rattle.cases.specs.Seed.{seedOf, counted, givenHex, fileOf, firstBytes, turns};
 ghost use Rattle.cases.specs.Seed.{nibble as nibbleOf};
-use crate::number::named;
+use crate::number::read_name;
 use crate::number::read_number;
 
 pub(crate) enum Seed {
@@ -26,16 +26,21 @@ pub(crate) fn read_seed(line: &[u8], at: usize) -> Seeded
     ensures { λ r. ⌜ readSeed (now (line .entry)) r ≡ seedOf (leftAt (now (line .entry)) at) ⌝ }
     ensures { λ r. ⌜ Within (now (line .entry)) (r .seed) ⌝ }
 {
-    let z = named(line, at, b"z");
-    if z < line.len() + 2 {
+    let z = read_name(line, at);
+    if z.letters == 122 {
         return Seeded {
             seed: Seed::Zeros,
-            next: z,
+            next: z.next,
         };
     }
-    let x = read_exact(line, at);
-    if x.next < line.len() + 2 {
-        return x;
+    if line.len() <= at {
+        return Seeded {
+            seed: Seed::Number(0),
+            next: line.len() + 2,
+        };
+    }
+    if line[at] == 120 {
+        return read_hex(line, at + 1);
     }
     let n = read_number(line, at, 4294967295);
     Seeded {
@@ -44,36 +49,16 @@ pub(crate) fn read_seed(line: &[u8], at: usize) -> Seeded
     }
 }
 
-// An x at a place, and hex digits.
-fn read_exact(line: &[u8], at: usize) -> Seeded
-    ensures { λ r. ⌜ readSeed (now (line .entry)) r ≡ next (counted 0) exact (leftAt (now (line .entry)) at) ⌝ }
-    ensures { λ r. ⌜ Within (now (line .entry)) (r .seed) ⌝ }
-{
-    if line.len() <= at {
-        return Seeded {
-            seed: Seed::Number(0),
-            next: line.len() + 2,
-        };
-    }
-    if line[at] != 120 {
-        return Seeded {
-            seed: Seed::Number(0),
-            next: line.len() + 2,
-        };
-    }
-    read_hex(line, at + 1)
-}
-
 // A file's bytes at a place, in hex; a minus is none.
 pub(crate) fn read_file(line: &[u8], at: usize) -> Seeded
     ensures { λ r. ⌜ readSeed (now (line .entry)) r ≡ fileOf (leftAt (now (line .entry)) at) ⌝ }
     ensures { λ r. ⌜ Within (now (line .entry)) (r .seed) ⌝ }
 {
-    let m = named(line, at, b"-");
-    if m < line.len() + 2 {
+    let m = read_name(line, at);
+    if m.letters == 45 {
         return Seeded {
             seed: Seed::Bytes(0, 0),
-            next: m,
+            next: m.next,
         };
     }
     if line.len() <= at {

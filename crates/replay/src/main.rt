@@ -5,14 +5,25 @@ ghost use lib.ListN.{length};
 
 mod calls;
 
-use calls::bad;
-use calls::run;
-use cases::Case;
+use calls::respond;
 use libc::STDIN_FILENO;
 use libc::STDOUT_FILENO;
 
 // The longest line that is read; what is longer is bad.
 const LONGEST: usize = 65536;
+
+fn bad(out: &mut [u8]) -> usize
+    ensures { λ r. ⌜ r ≤ length (now (out .entry)) ⌝ }
+{
+    if out.len() < 4 {
+        return 0;
+    }
+    out[0] = b'b';
+    out[1] = b'a';
+    out[2] = b'd';
+    out[3] = b'\n';
+    4
+}
 
 // Answers a line at the start of out.
 fn answer(line: &[u8], bytes: &mut [u8], image: &mut [u8], out: &mut [u8]) -> usize
@@ -21,18 +32,20 @@ fn answer(line: &[u8], bytes: &mut [u8], image: &mut [u8], out: &mut [u8]) -> us
     if LONGEST < line.len() {
         return bad(out);
     }
-    match cases::read(line, bytes, image) {
-        Case::Bad => bad(out),
-        Case::Of(v, n, c, m) => {
-            if bytes.len() < n {
-                return bad(out);
-            }
-            if image.len() < m {
-                return bad(out);
-            }
-            run(v, &mut bytes[..n], c, &image[..m], out)
-        }
+    let c = cases::read(line, bytes, image);
+    if c.name == 0 {
+        return bad(out);
     }
+    let n = c.bytes;
+    if bytes.len() < n {
+        return bad(out);
+    }
+    let m = c.image;
+    if image.len() < m {
+        return bad(out);
+    }
+    let a = respond(c, &mut bytes[..n], &image[..m]);
+    cases::write(a, out)
 }
 
 // Answers a line behind what out holds, which is written out first where little room is left.
@@ -40,7 +53,7 @@ fn step(line: &[u8], bytes: &mut [u8], image: &mut [u8], out: &mut [u8], used: u
     requires { ⌜ used ≤ length (now out) ⌝ }
     ensures { λ r. ⌜ r ≤ length (now (out .entry)) ⌝ }
 {
-    if used + 132 <= out.len() {
+    if used + 144 <= out.len() {
         let n = answer(line, bytes, image, &mut out[used..]);
         return used + n;
     }
@@ -243,22 +256,17 @@ fn serve(text: &mut [u8], bytes: &mut [u8; 1048576], image: &mut [u8; 1048576], 
     io::write_all(STDOUT_FILENO, &out[..used]);
 }
 
-// Room for two lines of the greatest length.
-fn text_buffer() -> [u8; 131072]
-    ensures { λ r. ⌜ 131072 ≡ length r ⌝ }
+// Room for the largest canvas or image that is tried, and for more than two lines of the greatest length.
+fn buffer() -> [u8; 1048576]
+    ensures { λ r. ⌜ 1048576 ≡ length r ⌝ }
 {
-    [0; 131072]
-}
-
-// Room for the largest canvas or image that is tried, 1,048,576 bytes.
-fn canvas_buffer() -> [u8; 1048576] {
     [0; 1048576]
 }
 
 fn main() {
-    let mut text = text_buffer();
-    let mut bytes = canvas_buffer();
-    let mut image = canvas_buffer();
+    let mut text = buffer();
+    let mut bytes = buffer();
+    let mut image = buffer();
     let mut out = io::large_buffer();
     serve(&mut text, &mut bytes, &mut image, &mut out);
 }

@@ -1,6 +1,8 @@
--- `put_found` puts the words of its case.
+-- `put_found` puts the fields of what was found.
+use lib.Dec.{lit<, lit≤}
 use native.Mathlib.Omega.{arith}
 use Rattle.cases.specs.Answer.{foundText}
+use Rattle.cases.proofs.Texts.{wrote}
 use borrow.Author.Needs.{needs}
 use Rattle.cases.proofs.answer.put_found.Statement.{statement}
 use Rattle.cases.proofs.answer.put_found.Tie as tie
@@ -38,8 +40,29 @@ put-text-requires c κs = search needs
 enum-known-f-3 : tie.Need-enum-known-f-3
 enum-known-f-3 c = search needs
 
-put-image-requires : tie.Need-put-image-requires
-put-image-requires c κs = search needs
+slice-aggregate-put-field-3 : tie.Need-slice-aggregate-put-field-3
+slice-aggregate-put-field-3 c = search needs
+
+cast-put-field-2 : tie.Need-cast-put-field-2
+cast-put-field-2 c = search needs
+
+put-field-requires-3 : tie.Need-put-field-requires-3
+put-field-requires-3 c κs = search needs
+
+slice-aggregate-put-field-4 : tie.Need-slice-aggregate-put-field-4
+slice-aggregate-put-field-4 c = search needs
+
+cast-put-field-3 : tie.Need-cast-put-field-3
+cast-put-field-3 c = search needs
+
+put-field-requires-4 : tie.Need-put-field-requires-4
+put-field-requires-4 c κs = ((lit< tt, lit≤ tt), omega (arith, c .before .before .before .before .put-field3 .ensures .1, c .before .before .before .before .put-field3 .kept .0, c .before .before .before .before .before .before .before .before .before .before .before .pre))
+
+slice-aggregate-put-field-5 : tie.Need-slice-aggregate-put-field-5
+slice-aggregate-put-field-5 c = search needs
+
+put-field-requires-5 : tie.Need-put-field-requires-5
+put-field-requires-5 c κs = ((lit< tt, lit≤ tt), omega (arith, c .before .before .before .before .before .before .before .before .before .put-field3 .ensures .1, c .before .before .before .before .before .before .before .before .before .put-field3 .kept .0, c .before .before .before .before .put-field4 .ensures .1, c .before .before .before .before .put-field4 .kept .0, c .before .before .before .before .before .before .before .before .before .before .before .before .before .before .before .before .pre))
 
 same-length : tie.Need-same-length
 same-length c = search needs
@@ -74,8 +97,11 @@ same-length-4 c = search needs
 returns-4 : tie.Need-returns-4
 unfolding foundText
 returns-4 c =
-    let put-image = c .before .before .put-image in
-    (rw (c .before .before .before .before .before .f3 .given .1) (put-image .ensures .0), omega (arith, put-image .ensures .1))
+    let a = c .before .before .before .before .before .before .before .before .before .before .before .before .before .before .before .before .before .before .before .args in
+    let put-field3 = c .before .before .before .before .before .before .before .before .before .before .before .before .put-field3 in
+    let put-field4 = c .before .before .before .before .before .before .before .put-field4 in
+    let put-field5 = c .before .before .put-field5 in
+    (rw (c .before .before .before .before .before .before .before .before .before .before .before .before .before .before .before .before .f3 .given .1) (wrote _ _ (a .out .now) (put-field4 .last .0) (put-field5 .last .0) (a .at) (put-field4 .result) (put-field5 .result) (wrote _ _ (a .out .now) (put-field3 .last .0) (put-field4 .last .0) (a .at) (put-field3 .result) (put-field4 .result) (put-field3 .ensures .0) (put-field4 .ensures .0)) (put-field5 .ensures .0)), omega (arith, put-field3 .ensures .1, put-field4 .ensures .1, put-field5 .ensures .1))
 
 pub put-found-spec : {M : Type 1} → statement M
 put-found-spec =
@@ -92,7 +118,14 @@ put-found-spec =
     slice-aggregate-put-text
     put-text-requires
     enum-known-f-3
-    put-image-requires
+    slice-aggregate-put-field-3
+    cast-put-field-2
+    put-field-requires-3
+    slice-aggregate-put-field-4
+    cast-put-field-3
+    put-field-requires-4
+    slice-aggregate-put-field-5
+    put-field-requires-5
     same-length
     returns
     same-length-2

@@ -1,7 +1,7 @@
 -- `held` compares the area with the room divided by a pixel's size, so that no product can wrap.
 use native.Mathlib.Omega.{arith}
-use borrow.Author.Needs.{needs}
 use Rattle.cases.proofs.Cases.{held-none, held-over, held-is, area-fits, product-fits}
+use borrow.Author.Needs.{needs}
 use Rattle.cases.proofs.case.held.Statement.{statement}
 use Rattle.cases.proofs.case.held.Tie as tie
 
@@ -12,13 +12,9 @@ add-result : tie.Need-add-result
 add-result c = search needs
 
 returns : tie.Need-returns
-returns c = held-none (c .before .before .args .room) (c .before .size .result) (c .before .before .args .canvas) (c .before .size .ensures) (c .if1 .taken)
-
-cast-area : tie.Need-cast-area
-cast-area c = search needs
-
-cast-area-2 : tie.Need-cast-area-2
-cast-area-2 c = search needs
+returns c =
+    let a = c .before .before .args in
+    held-none (a .room) (c .before .size .result) (a .format) (a .width) (a .height) (c .before .size .ensures) (c .if1 .taken)
 
 mul-area : tie.Need-mul-area
 mul-area c = record { fits = area-fits _ _ (search needs) (search needs) }
@@ -31,18 +27,16 @@ add-result-2 c = search needs
 
 returns-2 : tie.Need-returns-2
 returns-2 c =
-    let a = c .before .before .before .before .before .args in
-    let size = c .before .before .before .before .size in
-    held-over (a .room) (size .result) (a .canvas) (size .ensures) (c .before .before .before .if1 .left) (c .if2 .taken)
+    let a = c .before .before .before .args in
+    held-over (a .room) (c .before .before .size .result) (a .format) (a .width) (a .height) (c .before .before .size .ensures) (c .before .if1 .left) (c .if2 .taken)
 
 mul-result : tie.Need-mul-result
-mul-result c = omega (arith, product-fits _ (c .before .before .before .before .before .args .room) (c .before .before .before .before .size .result) (c .before .before .before .if1 .left) (c .if2 .left))
+mul-result c = omega (arith, product-fits _ (c .before .before .before .args .room) (c .before .before .size .result) (c .before .if1 .left) (c .if2 .left))
 
 returns-3 : tie.Need-returns-3
 returns-3 c =
-    let a = c .before .before .before .before .before .args in
-    let size = c .before .before .before .before .size in
-    held-is (a .room) (size .result) (a .canvas) (size .ensures) (c .before .before .before .if1 .left)
+    let a = c .before .before .before .args in
+    held-is (a .room) (c .before .before .size .result) (a .format) (a .width) (a .height) (c .before .before .size .ensures) (c .before .if1 .left)
 
 pub held-spec : {M : Type 1} → statement M
 held-spec =
@@ -51,8 +45,6 @@ held-spec =
     size-requires
     add-result
     returns
-    cast-area
-    cast-area-2
     mul-area
     div-if2
     add-result-2

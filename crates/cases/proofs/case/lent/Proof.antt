@@ -1,10 +1,10 @@
 -- `lent` counts by the seed's kind.
 use mathlib.Core.Path.{refl, sym, _∙_, ap}
-use borrow.Author.Needs.{needs}
 use Rattle.cases.specs.Case.{lent, fitting, capped}
 use Rattle.cases.specs.Place.{sown, Fills}
 use Rattle.cases.specs.declared.seed.Seed.{Seed}
 use Rattle.cases.proofs.Cases.{length-pairs}
+use borrow.Author.Needs.{needs}
 use Rattle.cases.proofs.case.lent.Statement.{statement}
 use Rattle.cases.proofs.case.lent.Tie as tie
 
@@ -27,22 +27,20 @@ returns : tie.Need-returns
 unfolding lent sown Fills
 returns c =
     let a = c .before .before .before .before .args in
-    let enum-told = c .before .enum-told in
-    (c .held .ensures ∙ sym (ap (λ (s : Seed). capped (a .room) (lent (a .canvas) (sown (a .line .now) s))) (enum-told .given .1)), rw (enum-told .given .1) tt)
+    (c .held .ensures ∙ sym (ap (λ (s : Seed). capped (a .room) (lent (a .format) (a .width) (a .height) (sown (a .line .now) s))) (c .before .enum-told .given .1)), rw (c .before .enum-told .given .1) tt)
 
 returns-2 : tie.Need-returns-2
 unfolding lent sown Fills
 returns-2 c =
     let a = c .before .before .before .before .args in
-    let enum-told2 = c .before .enum-told2 in
-    (c .held2 .ensures ∙ sym (ap (λ (s : Seed). capped (a .room) (lent (a .canvas) (sown (a .line .now) s))) (enum-told2 .given .1)), rw (enum-told2 .given .1) tt)
+    (c .held2 .ensures ∙ sym (ap (λ (s : Seed). capped (a .room) (lent (a .format) (a .width) (a .height) (sown (a .line .now) s))) (c .before .enum-told2 .given .1)), rw (c .before .enum-told2 .given .1) tt)
 
 returns-3 : tie.Need-returns-3
 unfolding lent sown capped Fills
 returns-3 c =
     let a = c .before .before .before .before .args in
     let seed = c .before .seed in
-    (ap (fitting (a .room)) (sym (length-pairs (a .line .now) (seed .given .0 .0) (seed .given .0 .1 .0))) ∙ sym (ap (λ (s : Seed). capped (a .room) (lent (a .canvas) (sown (a .line .now) s))) (seed .given .1)), rw (seed .given .1) refl)
+    (ap (fitting (a .room)) (sym (length-pairs (a .line .now) (seed .given .0 .0) (seed .given .0 .1 .0))) ∙ sym (ap (λ (s : Seed). capped (a .room) (lent (a .format) (a .width) (a .height) (sown (a .line .now) s))) (seed .given .1)), rw (seed .given .1) refl)
 
 pub lent-spec : {M : Type 1} → statement M
 lent-spec =

@@ -38,7 +38,7 @@ loop-again : tie.Need-loop-again Inv-loop μ-loop
 loop-again c =
     let a = c .before .before .before .before .before .before .args in
     let l = c .before .before .before .before .loop in
-    (omega arith, ap (λ (n : ℕ). hashFrom n (drop (l .i + 1) (a .bytes .now))) (c .times .ensures ∙ ap (λ (b : ℕ). stirred (bitXor (l .h) b)) (c .before .wide .ensures)) ∙ sym (taken-in (l .h) (a .bytes .now) (l .i) (c .before .before .before .loop-test .taken)) ∙ l .inv .1)
+    (omega arith, ap (λ (n : ℕ). hashFrom n (drop (l .i + 1) (a .bytes .now))) (c .times .ensures ∙ ap (λ (b : ℕ). stirred (bitXor (l .h) b)) (c .before .wide .ensures .0)) ∙ sym (taken-in (l .h) (a .bytes .now) (l .i) (c .before .before .before .loop-test .taken)) ∙ l .inv .1)
 
 returns : tie.Need-returns Inv-loop μ-loop
 unfolding hashOf

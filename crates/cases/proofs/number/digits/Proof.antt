@@ -38,7 +38,7 @@ unfolding after digits
 returns c =
     let a = c .before .before .before .before .before .before .args in
     let l = c .before .before .before .before .loop in
-    (sym (l .inv .2 ∙ space 0 (digits (a .most) (l .value)) (a .line .now) (l .i) (c .before .before .before .loop-test .taken) (sym (c .before .wide .ensures) ∙ c .if1 .taken)), l .inv .1)
+    (sym (l .inv .2 ∙ space 0 (digits (a .most) (l .value)) (a .line .now) (l .i) (c .before .before .before .loop-test .taken) (sym (c .before .wide .ensures .0) ∙ c .if1 .taken)), l .inv .1)
 
 add-t15 : tie.Need-add-t15 Inv-loop μ-loop
 add-t15 c = search needs
@@ -48,7 +48,7 @@ returns-2 c =
     let a = c .before .before .before .before .before .before .before .args in
     let l = c .before .before .before .before .before .loop in
     let wide = c .before .before .wide in
-    (losing 0 (a .line .now) (l .inv .2 ∙ low (a .most) (l .value) (a .line .now) (l .i) (wide .result) (c .before .before .before .before .loop-test .taken) (wide .ensures) (c .before .if1 .left) (c .if2 .taken)), omega arith)
+    (losing 0 (a .line .now) (l .inv .2 ∙ low (a .most) (l .value) (a .line .now) (l .i) (wide .result) (c .before .before .before .before .loop-test .taken) (wide .ensures .0) (c .before .if1 .left) (c .if2 .taken)), omega arith)
 
 add-t17 : tie.Need-add-t17 Inv-loop μ-loop
 add-t17 c = search needs
@@ -58,7 +58,7 @@ returns-3 c =
     let a = c .before .before .before .before .before .before .before .before .args in
     let l = c .before .before .before .before .before .before .loop in
     let wide = c .before .before .before .wide in
-    (losing 0 (a .line .now) (l .inv .2 ∙ high (a .most) (l .value) (a .line .now) (l .i) (wide .result) (c .before .before .before .before .before .loop-test .taken) (wide .ensures) (c .before .before .if1 .left) (c .before .if2 .left) (c .if3 .taken)), omega arith)
+    (losing 0 (a .line .now) (l .inv .2 ∙ high (a .most) (l .value) (a .line .now) (l .i) (wide .result) (c .before .before .before .before .before .loop-test .taken) (wide .ensures .0) (c .before .before .if1 .left) (c .before .if2 .left) (c .if3 .taken)), omega arith)
 
 mul-if4 : tie.Need-mul-if4 Inv-loop μ-loop
 mul-if4 c = omega (arith, c .before .before .before .before .before .before .before .before .fits .most)
@@ -74,7 +74,7 @@ returns-4 c =
     let a = c .before .before .before .before .before .before .before .before .before .args in
     let l = c .before .before .before .before .before .before .before .loop in
     let wide = c .before .before .before .before .wide in
-    (losing 0 (a .line .now) (l .inv .2 ∙ large (a .most) (l .value) (a .line .now) (l .i) (wide .result) (c .before .before .before .before .before .before .loop-test .taken) (wide .ensures) (c .before .before .before .if1 .left) (c .before .before .if2 .left) (c .before .if3 .left) (c .if4 .taken)), omega arith)
+    (losing 0 (a .line .now) (l .inv .2 ∙ large (a .most) (l .value) (a .line .now) (l .i) (wide .result) (c .before .before .before .before .before .before .loop-test .taken) (wide .ensures .0) (c .before .before .before .if1 .left) (c .before .before .if2 .left) (c .before .if3 .left) (c .if4 .taken)), omega arith)
 
 mul-value : tie.Need-mul-value Inv-loop μ-loop
 mul-value c = omega (arith, c .before .before .before .before .before .before .before .before .before .fits .most)
@@ -93,7 +93,7 @@ loop-again c =
     let a = c .before .before .before .before .before .before .before .before .before .args in
     let l = c .before .before .before .before .before .before .before .loop in
     let wide = c .before .before .before .before .wide in
-    (omega arith, omega arith, l .inv .2 ∙ digit (a .most) (l .value) (a .line .now) (l .i) (wide .result) (c .before .before .before .before .before .before .loop-test .taken) (wide .ensures) (c .before .before .before .if1 .left) (c .before .before .if2 .left) (c .before .if3 .left) (c .if4 .left))
+    (omega arith, omega arith, l .inv .2 ∙ digit (a .most) (l .value) (a .line .now) (l .i) (wide .result) (c .before .before .before .before .before .before .loop-test .taken) (wide .ensures .0) (c .before .before .before .if1 .left) (c .before .before .if2 .left) (c .before .if3 .left) (c .if4 .left))
 
 cast-t23 : tie.Need-cast-t23 Inv-loop μ-loop
 cast-t23 c = omega (arith, c .before .before .before .fits .most)

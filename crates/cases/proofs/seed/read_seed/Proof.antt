@@ -1,61 +1,70 @@
 -- `read_seed` tries `z`, then `x` and hex, then a number.
+use mathlib.Core.Path.{_∙_}
+use Rattle.cases.specs.Seed.{counted}
+use Rattle.cases.specs.Place.{sown, Within}
+use Rattle.cases.proofs.Reading.{losing}
+use Rattle.cases.proofs.Seeds.{is-zeros, no-seed, is-given, is-counted}
 use borrow.Author.Needs.{needs}
-use Rattle.cases.specs.Place.{leftAt, sown, Within}
-use Rattle.cases.proofs.Seeds.{is-zeros, is-exact, is-counted}
 use Rattle.cases.proofs.seed.read_seed.Statement.{statement}
 use Rattle.cases.proofs.seed.read_seed.Tie as tie
 
-slice-aggregate-named : tie.Need-slice-aggregate-named
-slice-aggregate-named c = search needs
-
-named-requires : tie.Need-named-requires
-named-requires c κs = search needs
-
-add-if1 : tie.Need-add-if1
-add-if1 c = search needs
+read-name-requires : tie.Need-read-name-requires
+read-name-requires c κs = search needs
 
 returns : tie.Need-returns
 unfolding sown Within
 returns c =
     let a = c .before .before .before .before .args in
-    let named = c .before .named in
-    (is-zeros (a .line .now) (leftAt (a .line .now) (a .at)) (named .result) (named .ensures) (c .if1 .taken), tt)
+    let m = c .before .before .read-name in
+    (is-zeros (a .line .now) (a .at) (m .result .letters) (m .result .next) (m .ensures) (c .if1 .taken), tt)
 
-read-exact-requires : tie.Need-read-exact-requires
-read-exact-requires c κs = search needs
-
-add-if2 : tie.Need-add-if2
-add-if2 c = search needs
+add-t10 : tie.Need-add-t10
+add-t10 c = search needs
 
 returns-2 : tie.Need-returns-2
+unfolding sown Within
 returns-2 c =
-    let a = c .before .before .before .before .before .before .before .args in
-    let named = c .before .before .before .before .named in
-    let read-exact = c .before .before .read-exact in
-    (is-exact (a .line .now) (leftAt (a .line .now) (a .at)) (named .result) (read-exact .result .next) (sown (a .line .now) (read-exact .result .seed)) (named .ensures) (c .before .before .before .if1 .left) (read-exact .ensures .0) (c .if2 .taken), read-exact .ensures .1)
+    let a = c .before .before .before .before .before .args in
+    let m = c .before .before .before .read-name in
+    (losing (counted 0) (a .line .now) (no-seed (a .line .now) (a .at) (m .result .letters) (m .result .next) (m .ensures) (c .before .if1 .left) (c .if2 .taken)), tt)
+
+shared-slice-read-if3 : tie.Need-shared-slice-read-if3
+shared-slice-read-if3 c = search needs
+
+add-read-hex : tie.Need-add-read-hex
+add-read-hex c = search needs
+
+read-hex-requires : tie.Need-read-hex-requires
+read-hex-requires c κs = search needs
+
+returns-3 : tie.Need-returns-3
+returns-3 c =
+    let a = c .before .before .before .before .before .before .before .before .args in
+    let m = c .before .before .before .before .before .before .read-name in
+    (c .read-hex .ensures .0 ∙ is-given (a .line .now) (a .at) (m .result .letters) (m .result .next) (m .ensures) (c .before .before .before .before .if1 .left) (c .before .before .before .if2 .left) (c .before .if3 .taken), c .read-hex .ensures .1)
 
 read-number-requires : tie.Need-read-number-requires
 read-number-requires c κs = search needs
 
-returns-3 : tie.Need-returns-3
+returns-4 : tie.Need-returns-4
 unfolding sown Within
-returns-3 c =
+returns-4 c =
     let a = c .before .before .before .before .before .before .before .before .args in
-    let named = c .before .before .before .before .before .named in
-    let read-exact = c .before .before .before .read-exact in
-    let read-number = c .read-number in
-    (is-counted (a .line .now) (leftAt (a .line .now) (a .at)) (named .result) (read-exact .result .next) (read-number .result .value) (read-number .result .next) (sown (a .line .now) (read-exact .result .seed)) (named .ensures) (c .before .before .before .before .if1 .left) (read-exact .ensures .0) (c .before .if2 .left) (read-number .ensures .0), tt)
+    let m = c .before .before .before .before .before .before .read-name in
+    let n = c .read-number in
+    (is-counted (a .line .now) (a .at) (m .result .letters) (m .result .next) (m .ensures) (c .before .before .before .before .if1 .left) (c .before .before .before .if2 .left) (c .before .if3 .left) (n .result .value) (n .result .next) (n .ensures .0), tt)
 
 pub read-seed-spec : {M : Type 1} → statement M
 read-seed-spec =
     tie.close
     (tie.spec
-    slice-aggregate-named
-    named-requires
-    add-if1
+    read-name-requires
     returns
-    read-exact-requires
-    add-if2
+    add-t10
     returns-2
+    shared-slice-read-if3
+    add-read-hex
+    read-hex-requires
+    returns-3
     read-number-requires
-    returns-3)
+    returns-4)

@@ -1,4 +1,4 @@
--- The words written are a part of those lent.
+-- `decode` hashes what was written, which is within the words lent.
 use mathlib.Core.Path.{sym}
 use lib.Seq.{length-take-le}
 use borrow.Author.Needs.{needs}
@@ -11,35 +11,32 @@ decode-lbmp-requires c κs = search needs
 written-requires : tie.Need-written-requires
 written-requires c κs = search needs
 
-bad-requires : tie.Need-bad-requires
-bad-requires c κs = search needs
+slice-reshare-prefix-hash-words : tie.Need-slice-reshare-prefix-hash-words
+slice-reshare-prefix-hash-words c = search needs
+
+slice-aggregate-hash-words : tie.Need-slice-aggregate-hash-words
+slice-aggregate-hash-words c = sym (length-take-le _ _ (c .before .written .ensures))
+
+hash-words-requires : tie.Need-hash-words-requires
+hash-words-requires c κs = search needs
+
+enum-known-j : tie.Need-enum-known-j
+enum-known-j c = search needs
+
+number-requires : tie.Need-number-requires
+number-requires c κs = search needs
+
+enum-known-j-2 : tie.Need-enum-known-j-2
+enum-known-j-2 c = search needs
 
 same-length : tie.Need-same-length
 same-length c = search needs
 
-same-length-2 : tie.Need-same-length-2
-same-length-2 c = search needs
-
 returns : tie.Need-returns
 returns c = search needs
 
-slice-reshare-prefix-decoded : tie.Need-slice-reshare-prefix-decoded
-slice-reshare-prefix-decoded c = search needs
-
-slice-aggregate-decoded : tie.Need-slice-aggregate-decoded
-slice-aggregate-decoded c = sym (length-take-le _ _ (c .before .if1 .left))
-
-decoded-requires : tie.Need-decoded-requires
-decoded-requires c κs = search needs
-
-reply-requires : tie.Need-reply-requires
-reply-requires c κs = search needs
-
-same-length-3 : tie.Need-same-length-3
-same-length-3 c = search needs
-
-same-length-4 : tie.Need-same-length-4
-same-length-4 c = search needs
+same-length-2 : tie.Need-same-length-2
+same-length-2 c = search needs
 
 returns-2 : tie.Need-returns-2
 returns-2 c = search needs
@@ -50,14 +47,13 @@ decode-spec =
     (tie.spec
     decode-lbmp-requires
     written-requires
-    bad-requires
+    slice-reshare-prefix-hash-words
+    slice-aggregate-hash-words
+    hash-words-requires
+    enum-known-j
+    number-requires
+    enum-known-j-2
     same-length
-    same-length-2
     returns
-    slice-reshare-prefix-decoded
-    slice-aggregate-decoded
-    decoded-requires
-    reply-requires
-    same-length-3
-    same-length-4
+    same-length-2
     returns-2)

@@ -1,6 +1,6 @@
 -- The product of two sides of 32 bits fits 64.
-use borrow.Author.Needs.{needs}
 use Rattle.cases.proofs.Cases.{area-fits}
+use borrow.Author.Needs.{needs}
 use Rattle.replay.proofs.calls.written.Statement.{statement}
 use Rattle.replay.proofs.calls.written.Tie as tie
 
@@ -10,14 +10,14 @@ enum-told c = search needs
 enum-known-j : tie.Need-enum-known-j
 enum-known-j c = search needs
 
-cast-result : tie.Need-cast-result
-cast-result c = search needs
+cast-n : tie.Need-cast-n
+cast-n c = search needs
 
-cast-result-2 : tie.Need-cast-result-2
-cast-result-2 c = search needs
+cast-n-2 : tie.Need-cast-n-2
+cast-n-2 c = search needs
 
-mul-result : tie.Need-mul-result
-mul-result c = record { fits = area-fits _ _ (search needs) (search needs) }
+mul-n : tie.Need-mul-n
+mul-n c = record { fits = area-fits _ _ (search needs) (search needs) }
 
 returns : tie.Need-returns
 returns c = search needs
@@ -25,7 +25,18 @@ returns c = search needs
 returns-2 : tie.Need-returns-2
 returns-2 c = search needs
 
+returns-3 : tie.Need-returns-3
+returns-3 c = search needs
+
 pub written-spec : {M : Type 1} → statement M
 written-spec =
     tie.close
-    (tie.spec enum-told enum-known-j cast-result cast-result-2 mul-result returns returns-2)
+    (tie.spec
+    enum-told
+    enum-known-j
+    cast-n
+    cast-n-2
+    mul-n
+    returns
+    returns-2
+    returns-3)

@@ -1,0 +1,98 @@
+-- The table of ops: "OP ARGS..", a name and the kinds of its arguments.
+use mathlib.Core.Bool.{cond}
+use mathlib.Core.List.{List, [], _∷_, _++_}
+use Prim.Native.Nat.{ℕ, _+_}
+use lib.Dec.{eqb}
+use lib.ListN.{set, replicate}
+use Rattle.cases.specs.Line.{Left, Got, got}
+use Rattle.cases.specs.Number.{numberOf, signedOf}
+use Rattle.cases.specs.Seed.{Sown, given, seedOf, fileOf}
+
+-- The kinds: a an i32, b a switch, c a channel, d a seed, e a u32, f a file.
+abbrev pub a : ℕ
+a = 10
+
+abbrev pub b : ℕ
+b = 11
+
+abbrev pub c : ℕ
+c = 12
+
+abbrev pub d : ℕ
+d = 13
+
+abbrev pub e : ℕ
+e = 14
+
+abbrev pub f : ℕ
+f = 15
+
+-- "F W H X SEED"
+abbrev pub head : List ℕ
+head = e ∷ e ∷ e ∷ b ∷ d ∷ []
+
+-- "x y"; "w h"; "COL is A R G B"; "CLIP is x y w h"
+abbrev pub point : List ℕ
+point = a ∷ a ∷ []
+
+abbrev pub extent : List ℕ
+extent = e ∷ e ∷ []
+
+abbrev pub color : List ℕ
+color = c ∷ c ∷ c ∷ c ∷ []
+
+abbrev pub clip : List ℕ
+clip = point ++ extent
+
+-- An op is its letters, two hex digits each. What is no op has no arguments.
+unfoldable pub rowOf : ℕ → List ℕ
+rowOf op =
+    -- put, get, line
+    cond (eqb op 0x707574) (point ++ color ++ clip)
+    (cond (eqb op 0x676574) point
+    (cond (eqb op 0x6c696e65) (point ++ point ++ color ++ clip)
+    -- rect, fill
+    (cond (eqb op 0x72656374) (point ++ extent ++ color ++ clip)
+    (cond (eqb op 0x66696c6c) (point ++ extent ++ color ++ clip)
+    -- arc, pie
+    (cond (eqb op 0x617263) (point ++ extent ++ point ++ color ++ clip)
+    (cond (eqb op 0x706965) (point ++ extent ++ point ++ color ++ clip)
+    -- rrect, frrect
+    (cond (eqb op 0x7272656374) (point ++ extent ++ extent ++ color ++ clip)
+    (cond (eqb op 0x667272656374) (point ++ extent ++ extent ++ color ++ clip)
+    -- copy, invert
+    (cond (eqb op 0x636f7079) (point ++ point ++ extent ++ clip)
+    (cond (eqb op 0x696e76657274) (point ++ extent ++ clip)
+    -- draw, lbmp
+    (cond (eqb op 0x64726177) (point ++ extent ++ (e ∷ e ∷ e ∷ d ∷ []) ++ point ++ clip)
+    (cond (eqb op 0x6c626d70) (e ∷ f ∷ []) []))))))))))))
+
+-- "X is at most 1 and a channel at most 255", others fit a u32, and what is signed an i32.
+unfoldable pub numeric : ℕ → Left → Got ℕ
+numeric k l =
+    cond (eqb k a) (signedOf l)
+    (cond (eqb k b) (numberOf 1 l) (cond (eqb k c) (numberOf 255 l) (numberOf 4294967295 l)))
+
+-- The arguments that are numbers, each at its place among the words, and the seed or the file.
+pub record Args : Type 0 where
+  pub numbers : List ℕ
+  pub seed : Sown
+
+unfoldable pub numbered : ℕ → Got Args → Got ℕ → Got Args
+numbered i g n = got (record { numbers = set (g .value .numbers) i (n .value); seed = g .value .seed }) (n .left)
+
+unfoldable pub seeded : Got Args → Got Sown → Got Args
+seeded g s = got (record { numbers = g .value .numbers; seed = s .value }) (s .left)
+
+-- One argument more, the word i of them.
+unfoldable pub argOf : ℕ → ℕ → Got Args → Got Args
+argOf i k g =
+    cond (eqb k d) (seeded g (seedOf (g .left)))
+    (cond (eqb k f) (seeded g (fileOf (g .left))) (numbered i g (numeric k (g .left))))
+
+unfoldable pub argsFrom : ℕ → List ℕ → Got Args → Got Args
+argsFrom i [] g = g
+argsFrom i (k ∷ ks) g = argsFrom (i + 1) ks (argOf i k g)
+
+unfoldable pub argsOf : List ℕ → Left → Got Args
+argsOf ks l = argsFrom 0 ks (got (record { numbers = replicate 16 0; seed = given [] }) l)

@@ -1,0 +1,130 @@
+// The rows of the table of ops: a name, and the kinds of its arguments.
+ghost use mathlib.Core.Path.{_≡_};
+ghost use Prim.Native.Nat.{_<_};
+ghost use Rattle.cases.specs.Place.{leftAt, read, readArgs, kindsIn, Within};
+ghost use Rattle.cases.specs.Row.{rowOf, numeric, argOf, argsOf};
+use crate::number::Number;
+use crate::number::read_number;
+use crate::number::read_signed;
+use crate::seed::Seed;
+use crate::seed::read_file;
+use crate::seed::read_seed;
+
+// The names of the ops: their letters, one behind the other.
+pub const PUT: u64 = 0x707574;
+pub const GET: u64 = 0x676574;
+pub const LINE: u64 = 0x6c696e65;
+pub const RECT: u64 = 0x72656374;
+pub const FILL: u64 = 0x66696c6c;
+pub const ARC: u64 = 0x617263;
+pub const PIE: u64 = 0x706965;
+pub const RRECT: u64 = 0x7272656374;
+pub const FRRECT: u64 = 0x667272656374;
+pub const COPY: u64 = 0x636f7079;
+pub const INVERT: u64 = 0x696e76657274;
+pub const DRAW: u64 = 0x64726177;
+pub const LBMP: u64 = 0x6c626d70;
+
+// The arguments that were read: those that are numbers, each at its place among the words, the seed or the file, and
+// the place after them.
+pub(crate) struct Args {
+    pub numbers: [u32; 16],
+    pub seed: Seed,
+    pub next: usize,
+}
+
+// What the arguments of an op are, a hex digit each, from the highest: a an i32, b a switch, c a channel, d a seed,
+// e a u32, f a file. What is no op has none.
+pub(crate) fn kinds(name: u64) -> u64
+    ensures { λ r. ⌜ kindsIn 16 r ≡ rowOf name ⌝ }
+{
+    match name {
+        PUT => 0xaacc_ccaa_ee00_0000,
+        GET => 0xaa00_0000_0000_0000,
+        LINE => 0xaaaa_cccc_aaee_0000,
+        RECT | FILL => 0xaaee_cccc_aaee_0000,
+        ARC | PIE => 0xaaee_aacc_ccaa_ee00,
+        RRECT | FRRECT => 0xaaee_eecc_ccaa_ee00,
+        COPY => 0xaaaa_eeaa_ee00_0000,
+        INVERT => 0xaaee_aaee_0000_0000,
+        DRAW => 0xaaee_eeed_aaaa_ee00,
+        LBMP => 0xef00_0000_0000_0000,
+        _ => 0,
+    }
+}
+
+// A number of a kind, at a place.
+fn read_kind(line: &[u8], at: usize, kind: u64) -> Number
+    ensures { λ r. ⌜ read (now (line .entry)) r ≡ numeric kind (leftAt (now (line .entry)) at) ⌝ }
+{
+    if kind == 10 {
+        return read_signed(line, at);
+    }
+    if kind == 11 {
+        return read_number(line, at, 1);
+    }
+    if kind == 12 {
+        return read_number(line, at, 255);
+    }
+    read_number(line, at, 4294967295)
+}
+
+// Reads one more argument, which is the word i of them.
+fn take(line: &[u8], i: usize, kind: u64, a: Args) -> Args
+    requires { ⌜ i < 16 ⌝ }
+    requires { ⌜ Within (now line) (a .seed) ⌝ }
+    ensures { λ r. ⌜ readArgs (now (line .entry)) r ≡ argOf i kind (readArgs (now (line .entry)) a) ⌝ }
+    ensures { λ r. ⌜ Within (now (line .entry)) (r .seed) ⌝ }
+{
+    let at = a.next;
+    let mut numbers = a.numbers;
+    if kind == 13 {
+        let s = read_seed(line, at);
+        let seed = s.seed;
+        return Args {
+            numbers,
+            seed,
+            next: s.next,
+        };
+    }
+    if kind == 15 {
+        let s = read_file(line, at);
+        let seed = s.seed;
+        return Args {
+            numbers,
+            seed,
+            next: s.next,
+        };
+    }
+    let n = read_kind(line, at, kind);
+    numbers[i] = n.value;
+    let seed = a.seed;
+    Args {
+        numbers,
+        seed,
+        next: n.next,
+    }
+}
+
+// Reads the arguments of these kinds from a place on.
+pub(crate) fn read_args(line: &[u8], at: usize, kinds: u64) -> Args
+    ensures { λ r. ⌜ readArgs (now (line .entry)) r ≡ argsOf (kindsIn 16 kinds) (leftAt (now (line .entry)) at) ⌝ }
+    ensures { λ r. ⌜ Within (now (line .entry)) (r .seed) ⌝ }
+{
+    let mut a = Args {
+        numbers: [0; 16],
+        seed: Seed::Bytes(0, 0),
+        next: at,
+    };
+    let mut rest = kinds;
+    let mut i = 0;
+    while i < 16 {
+        if rest == 0 {
+            return a;
+        }
+        a = take(line, i, rest / 1152921504606846976, a);
+        rest = rest % 1152921504606846976 * 16;
+        i += 1;
+    }
+    a
+}
