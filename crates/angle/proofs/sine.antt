@@ -4,3 +4,4 @@ pub mod Rest
 pub mod Products
 pub mod Series
 pub mod Within
+pub mod Reduction

@@ -1,10 +1,11 @@
 -- "one written rule that determines the answer": the sine and the cosine in whole numbers, each step rounded down.
 -- Definitions only.
-use Prim.Native.Nat.{ℕ, _+_, _-_, _*_, _/_, _%_, _^_}
+use Prim.Native.Nat.{ℕ, _+_, _-_, _*_, _/_, _%_, _^_, _≤_}
 use mathlib.Core.Bool.{Bool, true, false, _&&_, cond}
 use lib.Dec.{ltb}
 use lib.IntN.{pos}
 use lib.Ieee.{Float, fin, binary32, binary64, neg, add, le, toBits, round}
+use Rattle.angle.specs.declared.sine.Reduced.{Reduced}
 use Rattle.angle.specs.declared.sine.SineCosine.{SineCosine}
 use Rattle.angle.specs.Meaning.{fact, placed}
 
@@ -44,6 +45,13 @@ shortOf n = ltb (turnOf n % hUnits) halfH
 
 unfoldable pub restOf : ℕ → ℕ
 restOf n = let q = turnOf n % hUnits in cond (ltb q halfH) (halfH - q) (q - halfH)
+
+-- The three together, and their bounds.
+unfoldable pub reducedOf : Float → Reduced
+reducedOf t = let n = unitsOf t in record { k = kOf n; short = shortOf n; rest = restOf n }
+
+abbrev pub Bounded : Reduced → Type 0
+Bounded a = (a .rest ≤ halfH) × (a .k ≤ 48)
 
 -- ---- the series, in units of 2 ^ -31
 
@@ -105,3 +113,10 @@ cosineOf t = let n = unitsOf t in placed neg ((kOf n + 1) % 4) (sineAt (shortOf 
 
 unfoldable pub sineCosineOf : Float → SineCosine
 sineCosineOf t = record { sine = sineOf t; cosine = cosineOf t }
+
+-- The same of an angle that is reduced.
+unfoldable pub sineCosineAt : Reduced → SineCosine
+sineCosineAt a = record {
+  sine = placed neg (a .k % 4) (sineAt (a .short) (a .rest)) (cosineAt (a .rest));
+  cosine = placed neg ((a .k + 1) % 4) (sineAt (a .short) (a .rest)) (cosineAt (a .rest));
+}

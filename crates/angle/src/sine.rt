@@ -5,7 +5,7 @@ ghost use mathlib.Core.Bool.{cond};
 ghost use lib.Dec.{eqb};
 ghost use lib.Ieee.{neg};
 ghost use Rattle.angle.specs.Meaning.{placed};
-ghost use Rattle.angle.specs.Sine.{one31, halfH, unitsOf, kOf, shortOf, restOf, squareOf, timesOf, lessOf, sineFrom, cosineFrom, asF32, sineCosineOf};
+ghost use Rattle.angle.specs.Sine.{one31, halfH, unitsOf, kOf, shortOf, restOf, squareOf, timesOf, lessOf, sineFrom, cosineFrom, asF32, reducedOf, Bounded, sineCosineAt, sineCosineOf};
 
 // z * w, where 2^31 stands for 1.
 fn times(z: u64, w: u64) -> u64
@@ -74,10 +74,10 @@ fn units_of(t: f32) -> u64
 }
 
 // An angle as k times H and a rest, which is taken off where `short`.
-struct Reduced {
-    k: u64,
-    short: bool,
-    rest: u64,
+pub struct Reduced {
+    pub k: u64,
+    pub short: bool,
+    pub rest: u64,
 }
 
 fn reduce(n: u64) -> Reduced
@@ -100,6 +100,13 @@ fn reduce(n: u64) -> Reduced
             rest: q - 0x3243_f6a8_885a,
         }
     }
+}
+
+// t, which is in radians, reduced.
+pub fn reduce_angle(t: f32) -> Reduced
+    ensures { λ r. ⌜ (r ≡ reducedOf t) × Bounded r ⌝ }
+{
+    reduce(units_of(t))
 }
 
 // The f32 nearest to n / 2^48, with a sign. Both summands are exact, so only the sum rounds.
@@ -138,15 +145,22 @@ pub struct SineCosine {
     pub cosine: f32,
 }
 
-// The sine and the cosine of t, which is in radians.
-pub fn sine_cosine(t: f32) -> SineCosine
-    ensures { λ r. ⌜ r ≡ sineCosineOf t ⌝ }
+// The sine and the cosine of an angle that is reduced.
+pub fn sine_cosine_at(a: Reduced) -> SineCosine
+    requires { ⌜ Bounded a ⌝ }
+    ensures { λ r. ⌜ r ≡ sineCosineAt a ⌝ }
 {
-    let a = reduce(units_of(t));
     let z = square(a.rest);
     let s = as_f32(a.short, sine_units(a.rest, z));
     let c = as_f32(false, cosine_units(z));
     let y = placed_at(a.k, s, c);
     let cosine = placed_at(a.k + 1, s, c);
     SineCosine { sine: y, cosine }
+}
+
+// The sine and the cosine of t, which is in radians.
+pub fn sine_cosine(t: f32) -> SineCosine
+    ensures { λ r. ⌜ r ≡ sineCosineOf t ⌝ }
+{
+    sine_cosine_at(reduce_angle(t))
 }

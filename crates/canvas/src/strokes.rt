@@ -43,7 +43,8 @@ fn dab_spot(
     dab(canvas, b, xs, ys, n, p, q, ink, t)
 }
 
-// The plots of a stroke of so many steps, the first and the last included.
+// The plots of a stroke of so many steps, the first and the last included. The next angle is reduced before a point is
+// worked out, so that the machine does both at once.
 fn stroke_steps(
     canvas: Canvas,
     b: &mut [u8],
@@ -62,9 +63,12 @@ fn stroke_steps(
 {
     let mut t = t0;
     let mut i = 0u32;
+    let mut a = curves::strokes::stroke_angle(start, sweep, 0, steps);
     while i <= steps {
-        let s = curves::strokes::stroke_point(o, start, sweep, i, steps);
+        let next = curves::strokes::stroke_angle(start, sweep, i + 1, steps);
+        let s = curves::strokes::spot_at(o, a);
         t = dab_spot(canvas, b, xs, ys, n, s, ink, t);
+        a = next;
         i = i + 1;
     }
     t

@@ -13,8 +13,9 @@ use Rattle.curves.proofs.pies.in_pie.Reads as in-pie
 use Rattle.curves.proofs.pies.pie_in.Reads as pie-in
 use Rattle.curves.proofs.pies.pie_row.Reads as pie-row
 use Rattle.curves.proofs.regions.next.Reads as next
+use Rattle.curves.proofs.strokes.spot_at.Reads as spot-at
 use Rattle.curves.proofs.strokes.steps.Reads as steps
-use Rattle.curves.proofs.strokes.stroke_point.Reads as stroke-point
+use Rattle.curves.proofs.strokes.stroke_angle.Reads as stroke-angle
 
 corner-determined : (κs : _) (a : _) (s s' : _) (r r' : _) → corner.Post κs a r s → corner.Post κs a r' s' → r ≡ r'
 corner-determined κs a s s' r r' p q = p ∙ sym q
@@ -52,5 +53,8 @@ next-determined κs a s s' r r' p q = one-next p q
 steps-determined : (κs : _) (a : _) (s s' : _) (r r' : _) → steps.Post κs a r s → steps.Post κs a r' s' → r ≡ r'
 steps-determined κs a s s' r r' p q = p .0 ∙ sym (q .0)
 
-stroke-point-determined : (κs : _) (a : _) (s s' : _) (r r' : _) → stroke-point.Post κs a r s → stroke-point.Post κs a r' s' → r ≡ r'
-stroke-point-determined κs a s s' r r' p q = p ∙ sym q
+stroke-angle-determined : (κs : _) (a : _) (s s' : _) (r r' : _) → stroke-angle.Post κs a r s → stroke-angle.Post κs a r' s' → r ≡ r'
+stroke-angle-determined κs a s s' r r' p q = p .0 ∙ sym (q .0)
+
+spot-at-determined : (κs : _) (a : _) (s s' : _) (r r' : _) → spot-at.Post κs a r s → spot-at.Post κs a r' s' → r ≡ r'
+spot-at-determined κs a s s' r r' p q = p ∙ sym q

@@ -3,7 +3,8 @@ use Prim.Native.Nat.{ℕ, _+_, _*_, min, max}
 use lib.Ieee.{Float, binary32, add, sub, mul}
 use Rattle.number.specs.Size.{one, absOf, maxOf}
 use Rattle.number.specs.Whole.{roundAs, ceilSize}
-use Rattle.angle.specs.Sine.{sineOf, cosineOf}
+use Rattle.angle.specs.declared.sine.SineCosine.{SineCosine}
+use Rattle.angle.specs.Sine.{sineCosineOf}
 use Rattle.angle.specs.Stroke.{strokeAngle}
 use Rattle.curves.specs.declared.ovals.Oval.{Oval}
 use Rattle.curves.specs.declared.strokes.Spot.{Spot}
@@ -17,12 +18,12 @@ unfoldable pub stepsOf : Oval → Float → ℕ → ℕ → ℕ
 stepsOf o sweep width height = min (max (2 * ceilSize (mul binary32 (absOf sweep) (strokeRadius o))) 1) (16 * max (width + height) 1)
 
 -- "the point is cx + a*cos t, cy - b*sin t, rounded halves away from zero"
-unfoldable pub spotAt : Oval → Float → Spot
-spotAt o t = record {
-  x = roundAs 31 (add binary32 (o .cx) (mul binary32 (o .a) (cosineOf t)));
-  y = roundAs 31 (sub binary32 (o .cy) (mul binary32 (o .b) (sineOf t)));
+unfoldable pub spotOf : Oval → SineCosine → Spot
+spotOf o t = record {
+  x = roundAs 31 (add binary32 (o .cx) (mul binary32 (o .a) (t .cosine)));
+  y = roundAs 31 (sub binary32 (o .cy) (mul binary32 (o .b) (t .sine)));
 }
 
 -- "for i from 0, t = start + (sweep*i)/steps in f32 radians"
 unfoldable pub strokePoint : Oval → Float → Float → ℕ → ℕ → Spot
-strokePoint o start sweep i steps = spotAt o (strokeAngle start sweep i steps)
+strokePoint o start sweep i steps = spotOf o (sineCosineOf (strokeAngle start sweep i steps))

@@ -3,8 +3,11 @@ ghost use mathlib.Core.Path.{_≡_};
 ghost use Prim.Native.Nat.{_+_, _*_, _≤_, max};
 ghost use lib.IntN.{pos};
 ghost use lib.Ieee.{binary32, ofInt};
-ghost use Rattle.curves.specs.Strokes.{stepsOf, strokePoint};
+ghost use Rattle.angle.specs.Sine.{reducedOf, Bounded, sineCosineAt};
+ghost use Rattle.angle.specs.Stroke.{strokeAngle};
+ghost use Rattle.curves.specs.Strokes.{stepsOf, spotOf};
 use crate::ovals::Oval;
+use angle::sine::Reduced;
 
 // The most steps on a canvas of these sides.
 fn most_steps(width: u32, height: u32) -> u64
@@ -43,17 +46,25 @@ fn nearest_to(n: u32) -> f32
     std::num::nearest_u32_to_f32(n)
 }
 
+// The angle at step i, reduced; start and sweep are in radians.
+pub fn stroke_angle(start: f32, sweep: f32, i: u32, steps: u32) -> Reduced
+    ensures { λ r. ⌜ (r ≡ reducedOf (strokeAngle start sweep i steps)) × Bounded r ⌝ }
+{
+    let along = sweep * nearest_to(i) / nearest_to(steps);
+    angle::sine::reduce_angle(start + along)
+}
+
 pub struct Spot {
     pub x: i32,
     pub y: i32,
 }
 
-// The point at step i; start and sweep are in radians.
-pub fn stroke_point(o: Oval, start: f32, sweep: f32, i: u32, steps: u32) -> Spot
-    ensures { λ r. ⌜ r ≡ strokePoint o start sweep i steps ⌝ }
+// The point at an angle that is reduced.
+pub fn spot_at(o: Oval, a: Reduced) -> Spot
+    requires { ⌜ Bounded a ⌝ }
+    ensures { λ r. ⌜ r ≡ spotOf o (sineCosineAt a) ⌝ }
 {
-    let along = sweep * nearest_to(i) / nearest_to(steps);
-    let t = angle::sine::sine_cosine(start + along);
+    let t = angle::sine::sine_cosine_at(a);
     Spot {
         x: number::round_i32(o.cx + o.a * t.cosine),
         y: number::round_i32(o.cy - o.b * t.sine),

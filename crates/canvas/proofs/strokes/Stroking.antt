@@ -7,9 +7,13 @@ use lib.Ieee.{Float}
 use lib.ListN.{length}
 use mir.Syntax.{w32}
 use mir.Val.{SFits, toZ, ofZ}
+use Rattle.angle.specs.declared.sine.Reduced.{Reduced}
+use Rattle.angle.specs.Sine.{reducedOf, Bounded, sineCosineAt}
+use Rattle.angle.specs.Stroke.{strokeAngle}
+use Rattle.angle.proofs.sine.Reduction.{at-reduced}
 use Rattle.curves.specs.declared.ovals.Oval.{Oval}
 use Rattle.curves.specs.declared.strokes.Spot.{Spot}
-use Rattle.curves.specs.Strokes.{stepsOf, strokePoint}
+use Rattle.curves.specs.Strokes.{stepsOf, spotOf, strokePoint}
 use Rattle.canvas.specs.declared.Canvas.{Canvas}
 use Rattle.canvas.specs.declared.Clip.{Clip}
 use Rattle.canvas.specs.declared.span.Span.{Span}
@@ -30,33 +34,44 @@ module _ (o : Oval) (start sweep : Float) (steps : ℕ) where
   from-length i zero = refl
   from-length i (suc n) = ap suc (from-length (suc i) n)
 
-  pub record Stroking (v : Canvas) (xs ys : Span) (f : ℕ → ℕ) (i : ℕ) (w : Work) (w₀ : Work) : Type 0 where
+  -- the angle at step i, as it is held
+  pub record Turned (i : ℕ) (a : Reduced) : Type 0 where
+    pub same : a ≡ reducedOf (strokeAngle start sweep i steps)
+    pub bounded : Bounded a
+
+  pub point-is : {i : ℕ} {a : Reduced} {s : Spot} → Turned i a → s ≡ spotOf o (sineCosineAt a) → s ≡ strokePoint o start sweep i steps
+  unfolding strokePoint
+  point-is {i} k e = e ∙ ap (λ (b : Reduced). spotOf o (sineCosineAt b)) (k .same) ∙ ap (spotOf o) (at-reduced (strokeAngle start sweep i steps))
+
+  pub record Stroking (v : Canvas) (xs ys : Span) (f : ℕ → ℕ) (i : ℕ) (a : Reduced) (w : Work) (w₀ : Work) : Type 0 where
     pub held : i ≤ suc steps
+    pub angle : Turned i a
     pub rest : Dabbing v xs ys f (strokeFrom o start sweep steps i (suc steps - i)) w (strokeFrom o start sweep steps 0 (suc steps)) w₀
 
   module _ {v : Canvas} {xs ys : Span} {f : ℕ → ℕ} where
-    pub stroking-start : {w : Work} → Stroking v xs ys f 0 w w
-    stroking-start =
+    pub stroking-start : {a : Reduced} {w : Work} → Turned 0 a → Stroking v xs ys f 0 a w w
+    stroking-start k =
         let n : suc steps - 0 ≡ suc steps = omega arith in
-        record { held = omega arith; rest = rw n dabbing-start }
+        record { held = omega arith; angle = k; rest = rw n dabbing-start }
 
-    pub stroking-room : {i : ℕ} {w w₀ : Work} → steps ≤ 1048544 → w₀ .tally .landed < 9223372036854775808 → i ≤ steps → Stroking v xs ys f i w w₀ → w .tally .landed + 1 < 18446744073709551616
+    pub stroking-room : {i : ℕ} {a : Reduced} {w w₀ : Work} → steps ≤ 1048544 → w₀ .tally .landed < 9223372036854775808 → i ≤ steps → Stroking v xs ys f i a w w₀ → w .tally .landed + 1 < 18446744073709551616
     stroking-room {i} l m h k = omega (arith, k .rest .few, from-length i (suc steps - i), from-length 0 (suc steps))
 
-    pub stroking-turn : {i : ℕ} {w w′ w₀ : Work} {s : Spot} → i ≤ steps → s ≡ strokePoint o start sweep i steps → w′ ≡ dabbed v xs ys f (pointOf s) w → Stroking v xs ys f i w w₀ → Stroking v xs ys f (i + 1) w′ w₀
+    pub stroking-turn : {i : ℕ} {a a′ : Reduced} {w w′ w₀ : Work} {s : Spot} → i ≤ steps → Turned (i + 1) a′ → s ≡ spotOf o (sineCosineAt a) → w′ ≡ dabbed v xs ys f (pointOf s) w → Stroking v xs ys f i a w w₀
+        → Stroking v xs ys f (i + 1) a′ w′ w₀
     unfolding strokeFrom
-    stroking-turn {i} {w} {w′} {w₀} {s} h e d k =
+    stroking-turn {i} {a} {a′} {w} {w′} {w₀} {s} h next e d k =
         let n : suc steps - i ≡ suc (steps - i) = omega arith in
         let m : suc steps - suc i ≡ steps - i = omega arith in
         let p : Dabbing v xs ys f (strokeFrom o start sweep steps i (suc (steps - i))) w (strokeFrom o start sweep steps 0 (suc steps)) w₀ = rw n at (k .rest) in
-        let g : w′ ≡ dabbed v xs ys f (pointOf (strokePoint o start sweep i steps)) w = rw e at d in
+        let g : w′ ≡ dabbed v xs ys f (pointOf (strokePoint o start sweep i steps)) w = rw (point-is (k .angle) e) at d in
         let q : Dabbing v xs ys f (strokeFrom o start sweep steps (suc i) (steps - i)) w′ (strokeFrom o start sweep steps 0 (suc steps)) w₀ = dabbing-step p g in
         let u : i + 1 ≡ suc i = omega arith in
-        rw u (record { held = omega arith; rest = rw m q })
+        rw u (record { held = omega arith; angle = rw u at next; rest = rw m q })
 
-    pub stroking-end : {i : ℕ} {w w₀ : Work} → steps < i → Stroking v xs ys f i w w₀ → w ≡ dabs v xs ys f (strokeFrom o start sweep steps 0 (suc steps)) w₀
+    pub stroking-end : {i : ℕ} {a : Reduced} {w w₀ : Work} → steps < i → Stroking v xs ys f i a w w₀ → w ≡ dabs v xs ys f (strokeFrom o start sweep steps 0 (suc steps)) w₀
     unfolding strokeFrom
-    stroking-end {i} {w} {w₀} h k =
+    stroking-end {i} {a} {w} {w₀} h k =
         let n : suc steps - i ≡ 0 = omega arith in
         let p : Dabbing v xs ys f (strokeFrom o start sweep steps i 0) w (strokeFrom o start sweep steps 0 (suc steps)) w₀ = rw n at (k .rest) in
         dabbing-end p
