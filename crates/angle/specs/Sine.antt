@@ -32,11 +32,12 @@ ninetySix = fin false 3 (pos 5)
 unfoldable pub unitsOf : Float → ℕ
 unitsOf t = cond (le least t && le t most) (toBits binary64 (add binary64 t ninetySix) - 0x4050_0000_0000_0000) 0x8_0000_0000_0000
 
--- The same from 20 times H and half of it below zero on: so k mod 4 is this k's.
+-- The same, counted from 20 times H and half of it below zero on.
 abbrev pub turnOf : ℕ → ℕ
 turnOf n = n + 0xCE2_80FD_D66A
 
--- k times H is nearest to t; whether that is more than t; and the rest, either way.
+-- 20 more than the k whose multiple of H is nearest to t, which is the same mod 4; whether that multiple is more than t; and
+-- the rest, either way.
 unfoldable pub kOf : ℕ → ℕ
 kOf n = turnOf n / hUnits
 
