@@ -1,7 +1,7 @@
 -- `sine_cosine_at` meets its contract: both answers come from one rest. Assumes nothing.
 use borrow.Author.Needs.{needs}
 use mathlib.Core.Path.{_≡_}
-use mathlib.Core.Bool.{Bool, false}
+use mathlib.Core.Bool.{false}
 use Prim.Native.Nat.{ℕ, _+_, _%_}
 use lib.Ieee.{Float, neg}
 use Rattle.angle.specs.declared.sine.Reduced.{Reduced}
