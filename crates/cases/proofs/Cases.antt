@@ -13,7 +13,8 @@ use Rattle.cases.specs.Number.{nameOf}
 use Rattle.cases.specs.Place.{leftAt, sown, pairs, readArgs, readName, kindsIn}
 use Rattle.cases.specs.Row.{Args, head, rowOf, argsOf}
 use Rattle.cases.specs.Seed.{firstBytes}
-use Rattle.cases.specs.Case.{pixel, exactly, fitting, capped, whole, Outcome, noCase, laid, lentAt, called, known, caseOf}
+use Rattle.words.specs.Format.{formatOf, bytesPerPixel}
+use Rattle.cases.specs.Case.{exactly, fitting, capped, whole, Outcome, noCase, laid, lentAt, called, known, caseOf}
 use Rattle.cases.specs.declared.number.Name.{Name}
 use Rattle.cases.specs.declared.row.Args.{Args as Taken}
 use Rattle.cases.proofs.Reading.{inside, finished, gone}
@@ -29,14 +30,14 @@ over : (room n : ℕ) → room < n → fitting room n ≡ none
 unfolding fitting
 over room n h = rw (lt-leb n room h)
 
-module _ (room size f w h : ℕ) (s : size ≡ pixel f) where
+module _ (room size f w h : ℕ) (s : size ≡ bytesPerPixel (formatOf f)) where
   pub held-none : size ≡ 0 → fitting room (room + 1) ≡ capped room (exactly f w h)
   unfolding exactly capped
-  held-none z = over room (room + 1) (omega arith) ∙ sym (rw (eq-eqb (pixel f) 0 (sym s ∙ z)))
+  held-none z = over room (room + 1) (omega arith) ∙ sym (rw (eq-eqb (bytesPerPixel (formatOf f)) 0 (sym s ∙ z)))
 
   pub held-is : (size ≡ 0 → ⊥) → fitting room (w * h * size) ≡ capped room (exactly f w h)
   unfolding exactly capped
-  held-is n = rw (ne-eqb (pixel f) 0 (λ (z : pixel f ≡ 0). n (s ∙ z)), s)
+  held-is n = rw (ne-eqb (bytesPerPixel (formatOf f)) 0 (λ (z : bytesPerPixel (formatOf f) ≡ 0). n (s ∙ z)), s)
 
   pub held-over : (size ≡ 0 → ⊥) → room / size < w * h → fitting room (room + 1) ≡ capped room (exactly f w h)
   held-over n l =

@@ -2,21 +2,18 @@
 use mathlib.Core.Bool.{cond}
 use mathlib.Core.List.{List, [], _∷_, _++_}
 use Prim.Native.Nat.{ℕ, _+_, _*_}
-use lib.Dec.{eqb, ltb, leb}
+use lib.Dec.{eqb, leb}
 use lib.ListN.{length, drop, getD, replicate}
+use Rattle.words.specs.Format.{formatOf, bytesPerPixel}
 use Rattle.cases.specs.Line.{Left, words, lost, Value, value, none, Got, wordsOf}
 use Rattle.cases.specs.Number.{nameOf}
 use Rattle.cases.specs.Row.{Args, head, rowOf, argsOf}
 use Rattle.cases.specs.Seed.{Sown, zeros, counted, given, firstBytes}
 use Rattle.cases.specs.declared.case.Case.{Case}
 
--- How many bytes a pixel has, by format; what is no format has none.
-unfoldable pub pixel : ℕ → ℕ
-pixel f = cond (eqb f 0) 1 (cond (eqb f 1) 2 (cond (ltb f 5) 4 0))
-
 -- A canvas of a known format has its exact bytes.
 unfoldable pub exactly : ℕ → ℕ → ℕ → Value ℕ
-exactly f w h = cond (eqb (pixel f) 0) none (value (w * h * pixel f))
+exactly f w h = let n = bytesPerPixel (formatOf f) in cond (eqb n 0) none (value (w * h * n))
 
 -- How many bytes are lent: those that hex gives, "which may have the wrong length"; else the canvas's.
 unfoldable pub lent : ℕ → ℕ → ℕ → Sown → Value ℕ

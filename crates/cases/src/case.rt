@@ -2,7 +2,7 @@
 ghost use mathlib.Core.Path.{_≡_};
 ghost use Prim.Native.Nat.{_<_, _^_};
 ghost use Rattle.cases.specs.Place.{sown, Within, Fills};
-ghost use Rattle.cases.specs.Case.{pixel, exactly, fitting, capped, noCase, caseOf};
+ghost use Rattle.cases.specs.Case.{exactly, fitting, capped, noCase, caseOf};
 ghost use Rattle.cases.specs.Case.{lent as lentTo};
 use crate::number::read_name;
 use crate::row::kinds;
@@ -32,24 +32,12 @@ fn bad() -> Case
     }
 }
 
-// How many bytes a pixel has, by format; 0 for what is no format.
-fn size(format: u32) -> usize
-    ensures { λ r. ⌜ r ≡ pixel format ⌝ }
-{
-    match format {
-        0 => 1,
-        1 => 2,
-        2..=4 => 4,
-        _ => 0,
-    }
-}
-
 // How many bytes a canvas has, if the room holds them; else one more than the room.
 fn held(format: u32, width: u32, height: u32, room: usize) -> usize
     requires { ⌜ room < 2 ^ 63 ⌝ }
     ensures { λ r. ⌜ fitting room r ≡ capped room (exactly format width height) ⌝ }
 {
-    let n = size(format);
+    let n = words::bytes_per_pixel(format);
     if n == 0 {
         return room + 1;
     }

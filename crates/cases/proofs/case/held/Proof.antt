@@ -5,8 +5,8 @@ use borrow.Author.Needs.{needs}
 use Rattle.cases.proofs.case.held.Statement.{statement}
 use Rattle.cases.proofs.case.held.Tie as tie
 
-size-requires : tie.Need-size-requires
-size-requires c κs = search needs
+bytes-per-pixel-requires : tie.Need-bytes-per-pixel-requires
+bytes-per-pixel-requires c κs = search needs
 
 add-result : tie.Need-add-result
 add-result c = search needs
@@ -14,7 +14,7 @@ add-result c = search needs
 returns : tie.Need-returns
 returns c =
     let a = c .before .before .args in
-    held-none (a .room) (c .before .size .result) (a .format) (a .width) (a .height) (c .before .size .ensures) (c .if1 .taken)
+    held-none (a .room) (c .before .bytes-per-pixel .result) (a .format) (a .width) (a .height) (c .before .bytes-per-pixel .ensures) (c .if1 .taken)
 
 mul-area : tie.Need-mul-area
 mul-area c = record { fits = area-fits _ _ (search needs) (search needs) }
@@ -28,21 +28,21 @@ add-result-2 c = search needs
 returns-2 : tie.Need-returns-2
 returns-2 c =
     let a = c .before .before .before .args in
-    held-over (a .room) (c .before .before .size .result) (a .format) (a .width) (a .height) (c .before .before .size .ensures) (c .before .if1 .left) (c .if2 .taken)
+    held-over (a .room) (c .before .before .bytes-per-pixel .result) (a .format) (a .width) (a .height) (c .before .before .bytes-per-pixel .ensures) (c .before .if1 .left) (c .if2 .taken)
 
 mul-result : tie.Need-mul-result
-mul-result c = omega (arith, product-fits _ (c .before .before .before .args .room) (c .before .before .size .result) (c .before .if1 .left) (c .if2 .left))
+mul-result c = omega (arith, product-fits _ (c .before .before .before .args .room) (c .before .before .bytes-per-pixel .result) (c .before .if1 .left) (c .if2 .left))
 
 returns-3 : tie.Need-returns-3
 returns-3 c =
     let a = c .before .before .before .args in
-    held-is (a .room) (c .before .before .size .result) (a .format) (a .width) (a .height) (c .before .before .size .ensures) (c .before .if1 .left)
+    held-is (a .room) (c .before .before .bytes-per-pixel .result) (a .format) (a .width) (a .height) (c .before .before .bytes-per-pixel .ensures) (c .before .if1 .left)
 
 pub held-spec : {M : Type 1} → statement M
 held-spec =
     tie.close
     (tie.spec
-    size-requires
+    bytes-per-pixel-requires
     add-result
     returns
     mul-area
