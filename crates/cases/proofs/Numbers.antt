@@ -2,13 +2,12 @@
 use mathlib.Core.List.{List, [], _∷_}
 use mathlib.Core.Path.{_≡_, refl, sym, _∙_, ap}
 use Prim.Native.Nat.{ℕ, _+_, _-_, _*_, _%_, _≤_, _<_}
-use native.Mathlib.Omega.{arith}
 use lib.ListN.{length, getD}
 use borrow.Author.Tests.{le-leb, lt-leb, eq-eqb, ne-eqb, eqb-false}
 use Rattle.cases.specs.Line.{Left, words, lost, Value, value, none, Got, got, after, next, firstOf}
 use Rattle.cases.specs.Place.{leftAt}
 use Rattle.cases.specs.Number.{accepts, digits, natural, minus, negative, numberOf, negativeOf, signedOf, letters}
-use Rattle.cases.proofs.Reading.{gone, letter, alike, refused, short, barred, first-found, first-missed}
+use Rattle.cases.proofs.Reading.{letter, alike, refused, short, barred, first-found, first-missed}
 
 module _ (most v : ℕ) (line : List ℕ) (i b : ℕ) (h : i < length line) (e : b ≡ getD line i 0) (s : b ≡ 32 → ⊥) where
   into : next 0 (digits most v) (leftAt line i) ≡ next 0 (λ (w : List ℕ). digits most v (b ∷ w)) (leftAt line (i + 1))

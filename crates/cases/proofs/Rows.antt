@@ -1,5 +1,5 @@
 -- The kinds that a number holds are those of a row, taken one by one.
-use mathlib.Core.List.{List, [], _∷_}
+use mathlib.Core.List.{List, []}
 use mathlib.Core.Logic.{_⊎_, inl, inr}
 use mathlib.Core.Path.{_≡_, refl, sym, ap}
 use Prim.Native.Nat.{ℕ, zero, suc, _+_, _-_, _*_, _/_, _%_, _<_, _≤_}
@@ -7,8 +7,9 @@ use native.Mathlib.Omega.{arith}
 use lib.ListN.{set}
 use borrow.Author.Tests.{eq-eqb, ne-eqb}
 use Rattle.cases.specs.Line.{Got}
+use Rattle.cases.specs.Number.{numeric}
 use Rattle.cases.specs.Place.{leftAt, read, readSeed, readArgs, kindsIn}
-use Rattle.cases.specs.Row.{Args, head, rowOf, numeric, numbered, seeded, argOf, argsFrom}
+use Rattle.cases.specs.Row.{Args, head, rowOf, numbered, seeded, argOf, argsFrom}
 use Rattle.cases.specs.Seed.{seedOf, fileOf}
 use Rattle.cases.specs.Case.{known}
 use Rattle.cases.specs.declared.number.Number.{Number}

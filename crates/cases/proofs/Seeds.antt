@@ -1,14 +1,14 @@
 -- Hex digits are read two by two: the bytes so far stand before those to come.
 use mathlib.Core.List.{List, [], _∷_, _++_, append-assoc, append-nil}
 use mathlib.Core.Path.{_≡_, refl, sym, _∙_, ap}
-use Prim.Native.Nat.{ℕ, _+_, _*_, _<_, _≤_}
+use Prim.Native.Nat.{ℕ, zero, suc, _+_, _*_, _<_, _≤_}
 use native.Mathlib.Numerals.{add-one}
 use native.Mathlib.Omega.{arith}
-use lib.ListN.{length, getD}
+use lib.ListN.{length, getD, replicate}
 use borrow.Author.Tests.{lt-ltb, le-ltb, eq-eqb, ne-eqb, eqb-false}
 use Rattle.cases.specs.Line.{Left, words, lost, Value, value, none, Got, got, after, next}
 use Rattle.cases.specs.Place.{leftAt, pairs, Within, Fills}
-use Rattle.cases.specs.Seed.{Sown, zeros, counted, given, nibble, byte, before, hexes, givenBy, givenHex, countedBy, sowing, seedOf, filled, fileOf}
+use Rattle.cases.specs.Seed.{Sown, zeros, counted, given, nibble, byte, before, hexes, givenBy, givenHex, countedBy, sowing, seedOf, filled, fileOf, turns}
 use Rattle.cases.specs.Number.{natural, numberOf, nameOf}
 use Rattle.cases.specs.declared.seed.Seed.{Seed}
 use Rattle.cases.specs.declared.seed.Seed.the-variants.{Bytes}
@@ -177,3 +177,9 @@ no-word line i h e = empty (counted 0) filled line i refl h e
 pub some-word : (line : List ℕ) (i : ℕ) → i < length line → (getD line i 0 ≡ 32 → ⊥) → next (counted 0) givenHex (leftAt line i) ≡ next (counted 0) filled (leftAt line i)
 unfolding filled
 some-word line i h s = letter (counted 0) givenHex line i h s ∙ sym (letter (counted 0) filled line i h s)
+
+-- Without a step, zero stays zero.
+pub still : (n : ℕ) → turns 0 n 0 ≡ replicate n 0
+unfolding turns
+still zero = refl
+still (suc n) = ap (λ (t : List ℕ). 0 ∷ t) (still n)

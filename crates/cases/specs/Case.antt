@@ -45,10 +45,11 @@ noCase = record { name = 0; head = replicate 16 0; args = replicate 16 0; bytes 
 -- The first bytes of each stand at the start of the bytes lent; without room for them the case is bad, and what is lent
 -- stays.
 unfoldable pub laid : ℕ → Args → Args → Value ℕ → Value ℕ → List ℕ → List ℕ → Outcome
-laid op h r (value n) (value m) bytes image =
-    (record { name = op; head = h .numbers; args = r .numbers; bytes = n; image = m },
-    firstBytes (h .seed) n ++ drop n bytes,
-    firstBytes (r .seed) m ++ drop m image)
+laid op h r (value n) (value m) bytes image = (
+  record { name = op; head = h .numbers; args = r .numbers; bytes = n; image = m },
+  firstBytes (h .seed) n ++ drop n bytes,
+  firstBytes (r .seed) m ++ drop m image,
+)
 laid op h r (value n) none bytes image = (noCase, bytes, image)
 laid op h r none m bytes image = (noCase, bytes, image)
 

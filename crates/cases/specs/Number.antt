@@ -38,6 +38,12 @@ negativeOf = next 0 negative
 unfoldable pub signedOf : Left → Got ℕ
 signedOf l = firstOf (numberOf 2147483647 l) (negativeOf l)
 
+-- Kinds: b, "X is at most 1"; c, "a channel at most 255"; a, "coordinates and angles fit an i32"; others fit a u32.
+unfoldable pub numeric : ℕ → Left → Got ℕ
+numeric kind l =
+    cond (eqb kind 11) (numberOf 1 l)
+    (cond (eqb kind 12) (numberOf 255 l) (cond (eqb kind 10) (signedOf l) (numberOf 4294967295 l)))
+
 -- A name by its letters, the first one highest: at most seven, and none of them 0.
 unfoldable pub letters : ℕ → List ℕ → Value ℕ
 letters v [] = value v

@@ -5,7 +5,7 @@ use Prim.Native.Nat.{ℕ, _+_}
 use lib.Dec.{eqb}
 use lib.ListN.{set, replicate}
 use Rattle.cases.specs.Line.{Left, Got, got}
-use Rattle.cases.specs.Number.{numberOf, signedOf}
+use Rattle.cases.specs.Number.{numeric}
 use Rattle.cases.specs.Seed.{Sown, given, seedOf, fileOf}
 
 -- The kinds: a an i32, b a switch, c a channel, d a seed, e a u32, f a file.
@@ -66,12 +66,6 @@ rowOf op =
     -- draw, lbmp
     (cond (eqb op 0x64726177) (point ++ extent ++ (e ∷ e ∷ e ∷ d ∷ []) ++ point ++ clip)
     (cond (eqb op 0x6c626d70) (e ∷ f ∷ []) []))))))))))))
-
--- "X is at most 1 and a channel at most 255", others fit a u32, and what is signed an i32.
-unfoldable pub numeric : ℕ → Left → Got ℕ
-numeric k l =
-    cond (eqb k a) (signedOf l)
-    (cond (eqb k b) (numberOf 1 l) (cond (eqb k c) (numberOf 255 l) (numberOf 4294967295 l)))
 
 -- The arguments that are numbers, each at its place among the words, and the seed or the file.
 pub record Args : Type 0 where

@@ -60,15 +60,15 @@ unfoldable pub fileOf : Left → Got Sown
 fileOf l = let m = nameOf l in cond (eqb (m .value) 45) (got (given []) (m .left)) (next (counted 0) filled l)
 
 -- "for each byte in turn s = s*1664525 + 1013904223 mod 2^32, and the byte is s >> 24"
-abbrev pub turned : ℕ → ℕ
-turned s = (s * 1664525 + 1013904223) % 4294967296
+abbrev pub turned : ℕ → ℕ → ℕ
+turned step s = (s * 1664525 + step) % 4294967296
 
-unfoldable pub turns : ℕ → ℕ → List ℕ
-turns zero s = []
-turns (suc n) s = turned s / 16777216 ∷ turns n (turned s)
+unfoldable pub turns : ℕ → ℕ → ℕ → List ℕ
+turns step zero s = []
+turns step (suc n) s = turned step s / 16777216 ∷ turns step n (turned step s)
 
 -- The first bytes of a canvas of so many.
 unfoldable pub firstBytes : Sown → ℕ → List ℕ
 firstBytes zeros n = replicate n 0
-firstBytes (counted s) n = turns n s
+firstBytes (counted s) n = turns 1013904223 n s
 firstBytes (given bs) n = bs

@@ -2,7 +2,7 @@
 ghost use mathlib.Core.Path.{_≡_};
 ghost use Prim.Native.Nat.{_<_, _^_};
 ghost use Rattle.cases.specs.Place.{sown, Within, Fills};
-ghost use Rattle.cases.specs.Case.{exactly, fitting, capped, noCase, caseOf};
+ghost use Rattle.cases.specs.Case.{exactly, fitting, capped, caseOf};
 ghost use Rattle.cases.specs.Case.{lent as lentTo};
 use crate::number::read_name;
 use crate::row::kinds;
@@ -20,17 +20,13 @@ pub struct Case {
     pub image: usize,
 }
 
-fn bad() -> Case
-    ensures { λ r. ⌜ r ≡ noCase ⌝ }
-{
-    Case {
-        name: 0,
-        head: [0; 16],
-        args: [0; 16],
-        bytes: 0,
-        image: 0,
-    }
-}
+const BAD: Case = Case {
+    name: 0,
+    head: [0; 16],
+    args: [0; 16],
+    bytes: 0,
+    image: 0,
+};
 
 // How many bytes a canvas has, if the room holds them; else one more than the room.
 fn held(format: u32, width: u32, height: u32, room: usize) -> usize
@@ -71,23 +67,23 @@ pub fn read(line: &[u8], bytes: &mut [u8], image: &mut [u8]) -> Case
     let name = read_name(line, h.next);
     let k = kinds(name.letters);
     if k == 0 {
-        return bad();
+        return BAD;
     }
     let c = read_args(line, name.next, k);
     if c.next != line.len() + 1 {
-        return bad();
+        return BAD;
     }
     let head = h.numbers;
     let seed = h.seed;
     let n = lent(line, head[0], head[1], head[2], seed, bytes.len());
     if bytes.len() < n {
-        return bad();
+        return BAD;
     }
     let args = c.numbers;
     let beside = c.seed;
     let m = lent(line, args[4], args[5], args[6], beside, image.len());
     if image.len() < m {
-        return bad();
+        return BAD;
     }
     sow(line, seed, &mut bytes[..n]);
     sow(line, beside, &mut image[..m]);

@@ -5,7 +5,7 @@ ghost use Prim.Native.Nat.{_≤_, _<_};
 ghost use lib.ListN.{length};
 ghost use Rattle.cases.specs.Line.{next};
 ghost use Rattle.cases.specs.Place.{leftAt, read, readName};
-ghost use Rattle.cases.specs.Number.{numberOf, signedOf, nameOf};
+ghost use Rattle.cases.specs.Number.{numberOf, numeric, nameOf};
 ghost use Rattle.cases.specs.Number.{digits as digitsOf};
 
 pub(crate) struct Number {
@@ -90,10 +90,19 @@ fn digits(line: &[u8], at: usize, most: u32) -> Number
     }
 }
 
-// The number at a place, with or without a minus, if an i32 holds it: the 32 bits that it has there.
-pub(crate) fn read_signed(line: &[u8], at: usize) -> Number
-    ensures { λ r. ⌜ read (now (line .entry)) r ≡ signedOf (leftAt (now (line .entry)) at) ⌝ }
+// The number of a kind at a place: b is 0 or 1, c at most 255, a an i32 and given by its bits, and else a u32.
+pub(crate) fn read_kind(line: &[u8], at: usize, kind: u64) -> Number
+    ensures { λ r. ⌜ read (now (line .entry)) r ≡ numeric kind (leftAt (now (line .entry)) at) ⌝ }
 {
+    if kind == 11 {
+        return read_number(line, at, 1);
+    }
+    if kind == 12 {
+        return read_number(line, at, 255);
+    }
+    if kind != 10 {
+        return read_number(line, at, 4294967295);
+    }
     let n = read_number(line, at, 2147483647);
     if n.next < line.len() + 2 {
         return n;

@@ -1,28 +1,38 @@
 // The rows of the table of ops: a name, and the kinds of its arguments.
 ghost use mathlib.Core.Path.{_≡_};
 ghost use Prim.Native.Nat.{_<_};
-ghost use Rattle.cases.specs.Place.{leftAt, read, readArgs, kindsIn, Within};
-ghost use Rattle.cases.specs.Row.{rowOf, numeric, argOf, argsOf};
-use crate::number::Number;
-use crate::number::read_number;
-use crate::number::read_signed;
+ghost use Rattle.cases.specs.Place.{leftAt, readArgs, kindsIn, Within};
+ghost use Rattle.cases.specs.Row.{rowOf, argOf, argsOf};
+use crate::number::read_kind;
 use crate::seed::Seed;
 use crate::seed::read_file;
 use crate::seed::read_seed;
 
 // The names of the ops: their letters, one behind the other.
 pub const PUT: u64 = 0x707574;
+
 pub const GET: u64 = 0x676574;
+
 pub const LINE: u64 = 0x6c696e65;
+
 pub const RECT: u64 = 0x72656374;
+
 pub const FILL: u64 = 0x66696c6c;
+
 pub const ARC: u64 = 0x617263;
+
 pub const PIE: u64 = 0x706965;
+
 pub const RRECT: u64 = 0x7272656374;
+
 pub const FRRECT: u64 = 0x667272656374;
+
 pub const COPY: u64 = 0x636f7079;
+
 pub const INVERT: u64 = 0x696e76657274;
+
 pub const DRAW: u64 = 0x64726177;
+
 pub const LBMP: u64 = 0x6c626d70;
 
 // The arguments that were read: those that are numbers, each at its place among the words, the seed or the file, and
@@ -51,22 +61,6 @@ pub(crate) fn kinds(name: u64) -> u64
         LBMP => 0xef00_0000_0000_0000,
         _ => 0,
     }
-}
-
-// A number of a kind, at a place.
-fn read_kind(line: &[u8], at: usize, kind: u64) -> Number
-    ensures { λ r. ⌜ read (now (line .entry)) r ≡ numeric kind (leftAt (now (line .entry)) at) ⌝ }
-{
-    if kind == 10 {
-        return read_signed(line, at);
-    }
-    if kind == 11 {
-        return read_number(line, at, 1);
-    }
-    if kind == 12 {
-        return read_number(line, at, 255);
-    }
-    read_number(line, at, 4294967295)
 }
 
 // Reads one more argument, which is the word i of them.

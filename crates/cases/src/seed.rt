@@ -1,7 +1,7 @@
 // What the bytes of a canvas hold first.
 ghost use mathlib.Core.Path.{_≡_};
-ghost use Prim.Native.Nat.{_≤_, _+_, _*_};
-ghost use lib.ListN.{length, replicate};
+ghost use Prim.Native.Nat.{_≤_, _<_, _+_, _*_};
+ghost use lib.ListN.{length};
 ghost use Rattle.cases.specs.Line.{next};
 ghost use Rattle.cases.specs.Place.{leftAt, readSeed, Within, Fills, sown, pairs};
 ghost use Rattle.cases.specs.Seed.{seedOf, counted, givenHex, fileOf, firstBytes, turns};
@@ -150,29 +150,21 @@ pub(crate) fn sow(line: &[u8], seed: Seed, bytes: &mut [u8])
     ensures { λ _. ⌜ now (bytes .exit) ≡ firstBytes (sown (now (line .entry)) seed) (length (now (bytes .entry))) ⌝ }
 {
     match seed {
-        Seed::Zeros => clear(bytes),
-        Seed::Number(s) => grow(s, bytes),
+        Seed::Zeros => grow(0, 0, bytes),
+        Seed::Number(s) => grow(s, 1013904223, bytes),
         Seed::Bytes(from, _) => decode(line, from, bytes),
     }
 }
 
-fn clear(bytes: &mut [u8])
-    ensures { λ _. ⌜ now (bytes .exit) ≡ replicate (length (now (bytes .entry))) 0 ⌝ }
-{
-    let mut i = 0;
-    while i < bytes.len() {
-        bytes[i] = 0;
-        i += 1;
-    }
-}
-
-fn grow(s: u32, bytes: &mut [u8])
-    ensures { λ _. ⌜ now (bytes .exit) ≡ turns (length (now (bytes .entry))) s ⌝ }
+// Each byte is the top one of the next t, which grows by the step.
+fn grow(s: u32, step: u64, bytes: &mut [u8])
+    requires { ⌜ step < 4294967296 ⌝ }
+    ensures { λ _. ⌜ now (bytes .exit) ≡ turns step (length (now (bytes .entry))) s ⌝ }
 {
     let mut t = s as u64;
     let mut i = 0;
     while i < bytes.len() {
-        t = (t * 1664525 + 1013904223) % 4294967296;
+        t = (t * 1664525 + step) % 4294967296;
         bytes[i] = (t / 16777216) as u8;
         i += 1;
     }

@@ -1,8 +1,7 @@
 -- `read` reads the head, the name and the row, and lays the first bytes out where there is room.
-use mathlib.Core.Path.{sym, _∙_, ap}
+use mathlib.Core.Path.{sym}
 use native.Mathlib.Omega.{arith}
 use lib.Seq.{length-take-le}
-use Rattle.cases.specs.declared.case.Case.{Case}
 use Rattle.cases.proofs.Cases.{no-op, no-row-ends, no-room, no-image-room, laid-out}
 use borrow.Author.Needs.{needs}
 use Rattle.cases.proofs.case.read.Statement.{statement}
@@ -17,16 +16,13 @@ read-name-requires c κs = search needs
 kinds-requires : tie.Need-kinds-requires
 kinds-requires c κs = search needs
 
-bad-requires : tie.Need-bad-requires
-bad-requires c κs = search needs
-
 returns : tie.Need-returns
 returns c =
-    let a = c .before .before .before .before .before .before .before .before .args in
-    let h = c .before .before .before .before .read-args in
-    let o = c .before .before .before .read-name in
-    let k = c .before .before .kinds in
-    ap (λ (r : Case). (r, a .bytes .now, a .image .now)) (c .bad .ensures) ∙ no-op (a .line .now) (a .bytes .now) (a .image .now) (h .result) (o .result) (k .result) (h .ensures .0) (o .ensures) (k .ensures) (c .before .if1 .taken)
+    let a = c .before .before .before .before .before .before .before .args in
+    let h = c .before .before .before .read-args in
+    let o = c .before .before .read-name in
+    let k = c .before .kinds in
+    no-op (a .line .now) (a .bytes .now) (a .image .now) (h .result) (o .result) (k .result) (h .ensures .0) (o .ensures) (k .ensures) (c .if1 .taken)
 
 read-args-requires-2 : tie.Need-read-args-requires-2
 read-args-requires-2 c κs = search needs
@@ -34,17 +30,14 @@ read-args-requires-2 c κs = search needs
 add-if2 : tie.Need-add-if2
 add-if2 c = search needs
 
-bad-requires-2 : tie.Need-bad-requires-2
-bad-requires-2 c κs = search needs
-
 returns-2 : tie.Need-returns-2
 returns-2 c =
-    let a = c .before .before .before .before .before .before .before .before .before .before .before .args in
-    let h = c .before .before .before .before .before .before .before .read-args in
-    let o = c .before .before .before .before .before .before .read-name in
-    let k = c .before .before .before .before .before .kinds in
-    let r = c .before .before .before .read-args2 in
-    ap (λ (r : Case). (r, a .bytes .now, a .image .now)) (c .bad2 .ensures) ∙ no-row-ends (a .line .now) (a .bytes .now) (a .image .now) (h .result) (o .result) (k .result) (h .ensures .0) (o .ensures) (k .ensures) (c .before .before .before .before .if1 .left) (r .result) (r .ensures .0) (c .before .if2 .taken)
+    let a = c .before .before .before .before .before .before .before .before .before .before .args in
+    let h = c .before .before .before .before .before .before .read-args in
+    let o = c .before .before .before .before .before .read-name in
+    let k = c .before .before .before .before .kinds in
+    let r = c .before .before .read-args2 in
+    no-row-ends (a .line .now) (a .bytes .now) (a .image .now) (h .result) (o .result) (k .result) (h .ensures .0) (o .ensures) (k .ensures) (c .before .before .before .if1 .left) (r .result) (r .ensures .0) (c .if2 .taken)
 
 array-read-lent : tie.Need-array-read-lent
 array-read-lent c = search needs
@@ -58,18 +51,15 @@ array-read-lent-3 c = search needs
 lent-requires : tie.Need-lent-requires
 lent-requires c κs = (c .before .before .before .before .before .before .before .read-args .ensures .1, omega (arith, c .before .before .before .before .before .before .before .before .before .before .before .good))
 
-bad-requires-3 : tie.Need-bad-requires-3
-bad-requires-3 c κs = search needs
-
 returns-3 : tie.Need-returns-3
 returns-3 c =
-    let a = c .before .before .before .before .before .before .before .before .before .before .before .before .before .before .args in
-    let h = c .before .before .before .before .before .before .before .before .before .before .read-args in
-    let o = c .before .before .before .before .before .before .before .before .before .read-name in
-    let k = c .before .before .before .before .before .before .before .before .kinds in
-    let r = c .before .before .before .before .before .before .read-args2 in
-    let lent = c .before .before .lent in
-    ap (λ (r : Case). (r, a .bytes .now, a .image .now)) (c .bad3 .ensures) ∙ no-room (a .line .now) (a .bytes .now) (a .image .now) (h .result) (o .result) (k .result) (h .ensures .0) (o .ensures) (k .ensures) (c .before .before .before .before .before .before .before .if1 .left) (r .result) (r .ensures .0) (lent .result) (lent .ensures .0) (c .before .if3 .taken)
+    let a = c .before .before .before .before .before .before .before .before .before .before .before .before .before .args in
+    let h = c .before .before .before .before .before .before .before .before .before .read-args in
+    let o = c .before .before .before .before .before .before .before .before .read-name in
+    let k = c .before .before .before .before .before .before .before .kinds in
+    let r = c .before .before .before .before .before .read-args2 in
+    let lent = c .before .lent in
+    no-room (a .line .now) (a .bytes .now) (a .image .now) (h .result) (o .result) (k .result) (h .ensures .0) (o .ensures) (k .ensures) (c .before .before .before .before .before .before .if1 .left) (r .result) (r .ensures .0) (lent .result) (lent .ensures .0) (c .if3 .taken)
 
 array-read-lent-4 : tie.Need-array-read-lent-4
 array-read-lent-4 c = search needs
@@ -83,18 +73,15 @@ array-read-lent-6 c = search needs
 lent-requires-2 : tie.Need-lent-requires-2
 lent-requires-2 c κs = (c .before .before .before .before .before .before .read-args2 .ensures .1, omega (arith, c .before .before .before .before .before .before .before .before .before .before .before .before .before .before .good))
 
-bad-requires-4 : tie.Need-bad-requires-4
-bad-requires-4 c κs = search needs
-
 returns-4 : tie.Need-returns-4
 returns-4 c =
-    let a = c .before .before .before .before .before .before .before .before .before .before .before .before .before .before .before .before .before .args in
-    let h = c .before .before .before .before .before .before .before .before .before .before .before .before .before .read-args in
-    let o = c .before .before .before .before .before .before .before .before .before .before .before .before .read-name in
-    let k = c .before .before .before .before .before .before .before .before .before .before .before .kinds in
-    let r = c .before .before .before .before .before .before .before .before .before .read-args2 in
-    let lent2 = c .before .before .lent2 in
-    ap (λ (r : Case). (r, a .bytes .now, a .image .now)) (c .bad4 .ensures) ∙ no-image-room (a .line .now) (a .bytes .now) (a .image .now) (h .result) (o .result) (k .result) (h .ensures .0) (o .ensures) (k .ensures) (c .before .before .before .before .before .before .before .before .before .before .if1 .left) (r .result) (r .ensures .0) (lent2 .result) (lent2 .ensures .0) (c .before .if4 .taken)
+    let a = c .before .before .before .before .before .before .before .before .before .before .before .before .before .before .before .before .args in
+    let h = c .before .before .before .before .before .before .before .before .before .before .before .before .read-args in
+    let o = c .before .before .before .before .before .before .before .before .before .before .before .read-name in
+    let k = c .before .before .before .before .before .before .before .before .before .before .kinds in
+    let r = c .before .before .before .before .before .before .before .before .read-args2 in
+    let lent2 = c .before .lent2 in
+    no-image-room (a .line .now) (a .bytes .now) (a .image .now) (h .result) (o .result) (k .result) (h .ensures .0) (o .ensures) (k .ensures) (c .before .before .before .before .before .before .before .before .before .if1 .left) (r .result) (r .ensures .0) (lent2 .result) (lent2 .ensures .0) (c .if4 .taken)
 
 slice-relend-prefix-sow : tie.Need-slice-relend-prefix-sow
 slice-relend-prefix-sow c = search needs
@@ -138,23 +125,19 @@ read-spec =
     read-args-requires
     read-name-requires
     kinds-requires
-    bad-requires
     returns
     read-args-requires-2
     add-if2
-    bad-requires-2
     returns-2
     array-read-lent
     array-read-lent-2
     array-read-lent-3
     lent-requires
-    bad-requires-3
     returns-3
     array-read-lent-4
     array-read-lent-5
     array-read-lent-6
     lent-requires-2
-    bad-requires-4
     returns-4
     slice-relend-prefix-sow
     slice-aggregate-sow

@@ -6,21 +6,21 @@ use borrow.Author.Needs.{needs}
 use Rattle.cases.specs.Seed.{firstBytes}
 use Rattle.cases.specs.Place.{sown, pairs}
 use Rattle.cases.specs.declared.seed.Seed.{Seed}
-use Rattle.cases.proofs.Seeds.{within, fills}
+use Rattle.cases.proofs.Seeds.{within, fills, still}
 use Rattle.cases.proofs.seed.sow.Statement.{statement}
 use Rattle.cases.proofs.seed.sow.Tie as tie
 
 enum-told : tie.Need-enum-told
 enum-told c = search needs
 
-clear-requires : tie.Need-clear-requires
-clear-requires c κs = search needs
+grow-requires : tie.Need-grow-requires
+grow-requires c κs = search needs
 
 enum-known-seed : tie.Need-enum-known-seed
 enum-known-seed c = search needs
 
-grow-requires : tie.Need-grow-requires
-grow-requires c κs = search needs
+grow-requires-2 : tie.Need-grow-requires-2
+grow-requires-2 c κs = search needs
 
 enum-known-seed-2 : tie.Need-enum-known-seed-2
 enum-known-seed-2 c = search needs
@@ -39,7 +39,7 @@ returns : tie.Need-returns
 unfolding firstBytes sown
 returns c =
     let a = c .before .before .before .before .before .before .before .before .args in
-    c .before .before .clear .ensures ∙ sym (ap (λ (s : Seed). firstBytes (sown (a .line .now) s) (length (a .bytes .now))) (c .before .before .before .before .enum-told .given .1))
+    c .before .before .grow .ensures ∙ still (length (a .bytes .now)) ∙ sym (ap (λ (s : Seed). firstBytes (sown (a .line .now) s) (length (a .bytes .now))) (c .before .before .before .before .enum-told .given .1))
 
 same-length-2 : tie.Need-same-length-2
 same-length-2 c = search needs
@@ -48,7 +48,7 @@ returns-2 : tie.Need-returns-2
 unfolding firstBytes sown
 returns-2 c =
     let a = c .before .before .before .before .before .before .before .before .before .args in
-    c .before .before .grow .ensures ∙ sym (ap (λ (s : Seed). firstBytes (sown (a .line .now) s) (length (a .bytes .now))) (c .before .before .before .before .before .seed .given .1))
+    c .before .before .grow2 .ensures ∙ sym (ap (λ (s : Seed). firstBytes (sown (a .line .now) s) (length (a .bytes .now))) (c .before .before .before .before .before .seed .given .1))
 
 same-length-3 : tie.Need-same-length-3
 same-length-3 c = search needs
@@ -65,9 +65,9 @@ sow-spec =
     tie.close
     (tie.spec
     enum-told
-    clear-requires
-    enum-known-seed
     grow-requires
+    enum-known-seed
+    grow-requires-2
     enum-known-seed-2
     decode-requires
     same-length
