@@ -38,7 +38,7 @@ foundText (Image w h clear) =
     (((32 ∷ 119 ∷ 61 ∷ []) ++ decimal w) ++ ((32 ∷ 104 ∷ 61 ∷ []) ++ decimal h))
     ++ ((32 ∷ 99 ∷ 108 ∷ 101 ∷ 97 ∷ 114 ∷ 61 ∷ []) ++ decimal clear)
 
--- "OP status=N"; the name is a number of 256 letters.
+-- "OP status=N"; a name is its letters, as the digits of base 256.
 unfoldable pub statusText : Answer → List ℕ
 statusText a = number 256 (a .name) ++ ((32 ∷ 115 ∷ 116 ∷ 97 ∷ 116 ∷ 117 ∷ 115 ∷ 61 ∷ []) ++ decimal (a .status))
 
