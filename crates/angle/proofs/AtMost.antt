@@ -12,7 +12,7 @@ use lib.Ieee.Exact.{HasValue}
 use lib.Ieee.Back.{round-whole}
 use lib.Ieee.Order.{round-mono, drop, kept}
 use Rattle.number.proofs.Range.{le-yes}
-use Rattle.angle.proofs.Rounded.{neg-round}
+use Rattle.number.proofs.Negated.{neg-round}
 
 -- x is a number, K in size at most
 abbrev pub AtMost : Float → ℕ → Type 0

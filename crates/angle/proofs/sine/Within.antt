@@ -21,7 +21,8 @@ use Rattle.angle.proofs.sine.Units.{Counted, counted, size-is, inside}
 use Rattle.angle.proofs.sine.Rest.{Found, found}
 use Rattle.angle.proofs.sine.Products.{Near}
 use Rattle.angle.proofs.sine.Series.{sin-near, cos-near, sin-le, cos-le}
-use Rattle.angle.proofs.Rounded.{Is, half, near, rounded, neg-round}
+use Rattle.number.proofs.Negated.{neg-round}
+use Rattle.angle.proofs.Rounded.{Is, half, near, rounded}
 
 -- ---- an answer of n / 2 ^ 48, rounded
 -- a 2 ^ -48th, in D-ths

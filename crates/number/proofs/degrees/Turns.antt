@@ -2,27 +2,26 @@
 -- Assumes nothing.
 use mathlib.Core.Path.{_≡_, refl, sym, ap, _∙_, subst}
 use mathlib.Core.Bool.{Bool, true, false, not, cond, _&&_}
-use Prim.Native.Nat.{ℕ, zero, suc, _+_, _-_, _*_, _/_, _%_, _^_, _≤_, _<_, compare}
+use Prim.Native.Nat.{ℕ, zero, suc, _+_, _-_, _*_, _/_, _%_, _^_, _≤_, _<_}
 use native.Mathlib.Nat.{mod-eq-of-lt, add-mul-mod-self-right}
 use native.Mathlib.Omega.{arith}
 use lib.Dec.{T, ltb, eqb, ltb→lt, nltb→le, eqb→eq, lit≤}
 use lib.Count.{trailingZeros}
 use lib.IntN.{ℤ, pos}
-use lib.Ieee.{Float, nan, inf, fin, binary32, hid, top, up, down, minus, size, nearest, odd, units, round, neg, add, sub, sum, mul, rem, lt, eq, le, fits, toBits, ofBits}
+use lib.Ieee.{Float, nan, inf, fin, binary32, hid, top, up, down, minus, size, odd, units, round, neg, add, sub, sum, mul, rem, lt, eq, le, fits, toBits, ofBits}
 use lib.Ieee.Fits.{down-pos, round-is, round-fits, and-l, eq→eqb}
 use lib.Ieee.Bits.{ofBits-toBits}
 use lib.Ieee.Exact.{HasValue}
 use lib.Ieee.Nearest.{div-same}
+use lib.Ieee.Order.{drop, kept as kept′}
 use borrow.Author.Tests.{le-ltb, lt-ltb}
 use Rattle.number.specs.Size.{plusZero}
 use Rattle.number.specs.Degrees.{turn, remEuclid360}
 use Rattle.number.proofs.Range.{no, none, le-no}
 use Rattle.number.proofs.Powers.{times-pow}
+use Rattle.number.proofs.Negated.{neg-round}
 
--- ---- a number rounded with either sign
-abbrev Two : Float → Float → Type 0
-Two x y = (neg y ≡ x) × (neg x ≡ y) × (lt x plusZero ≡ false)
-
+-- ---- what is rounded with plus is not below zero
 plus : (m : ℕ) (e : ℤ) → lt (fin false m e) plusZero ≡ false
 unfolding lt
 plus m e = le-ltb (m * up e * 1) (0 * 1 * down e) (least (m * up e * 1) (down e))
@@ -30,34 +29,28 @@ plus m e = le-ltb (m * up e * 1) (0 * 1 * down e) (least (m * up e * 1) (down e)
     least : (n d : ℕ) → 0 * 1 * d ≤ n
     least n d = omega arith
 
-two-odd : (d q k l : ℕ) → Two (odd d false q k l) (odd d true q k l)
-unfolding odd neg lt
-two-odd d zero k l = (refl, refl, refl)
-two-odd d (suc q) k l = let t = trailingZeros d (suc q) in (refl, refl, plus (suc q / 2 ^ t) (minus (k + t) l))
+odd-plus : (d q k l : ℕ) → lt (odd d false q k l) plusZero ≡ false
+unfolding odd lt
+odd-plus d zero k l = refl
+odd-plus d (suc q) k l = let t = trailingZeros d (suc q) in plus (suc q / 2 ^ t) (minus (k + t) l)
 
-two-units : (q k : ℕ) → Two (units binary32 false q k) (units binary32 true q k)
-unfolding units neg lt
-two-units q k = go (ltb (q * 2 ^ k) (2 ^ (149 + 128)))
+units-plus : (q k : ℕ) → lt (units binary32 false q k) plusZero ≡ false
+unfolding units lt
+units-plus q k = go (ltb (q * 2 ^ k) (2 ^ (149 + 128)))
   where
-    go : (b : Bool) → Two (cond b (odd 25 false q k 149) (inf false)) (cond b (odd 25 true q k 149) (inf true))
-    go true = two-odd 25 q k 149
-    go false = (refl, refl, refl)
+    go : (b : Bool) → lt (cond b (odd 25 false q k 149) (inf false)) plusZero ≡ false
+    go true = odd-plus 25 q k 149
+    go false = refl
 
-two : (a c : ℕ) → Two (round binary32 false a c) (round binary32 true a c)
-two a c =
-    let k = size (a * 2 ^ 149 / c) - 24 in
-    let u = c * 2 ^ k in
-    let w = two-units (nearest (a * 2 ^ 149 / u) (compare (a * 2 ^ 149 % u * 2) u)) k in
-    let x = round-is binary32 false a c in
-    let y = round-is binary32 true a c in
-    (ap neg y ∙ w .0 ∙ sym x, ap neg x ∙ w .1 ∙ sym y, ap (λ (z : Float). lt z plusZero) x ∙ w .2)
+round-plus : (a c : ℕ) → lt (round binary32 false a c) plusZero ≡ false
+round-plus a c = ap (λ (z : Float). lt z plusZero) (round-is binary32 false a c) ∙ units-plus (kept′ 24 (a * 2 ^ 149) c) (drop 24 (a * 2 ^ 149) c)
 
 pub rem-neg : (x : Float) → rem binary32 x turn ≡ neg (rem binary32 (neg x) turn)
 unfolding rem neg
 rem-neg nan = refl
 rem-neg (inf s) = refl
-rem-neg (fin true m e) = sym (two (m * up e * 1 % (45 * 8 * down e)) (down e * 1) .1)
-rem-neg (fin false m e) = sym (two (m * up e * 1 % (45 * 8 * down e)) (down e * 1) .0)
+rem-neg (fin true m e) = sym (neg-round false (m * up e * 1 % (45 * 8 * down e)) (down e * 1))
+rem-neg (fin false m e) = sym (neg-round true (m * up e * 1 % (45 * 8 * down e)) (down e * 1))
 
 -- ---- an f32 is its own rounding
 same-bits : (s : Bool) (m : ℕ) (e : ℤ) (n : ℕ) (d : ℤ) → n * up d * (down e * 1) ≡ m * up e * 1 * down d → toBits binary32 (fin s n d) ≡ toBits binary32 (fin s m e)
@@ -145,7 +138,7 @@ unfolding le lt eq rem
 beyond nan a b = absurd a
 beyond (inf true) a b = absurd a
 beyond (inf false) a b = kept (inf false) nan refl refl
-beyond (fin false m e) a b = kept (fin false m e) (rem binary32 (fin false m e) turn) refl (two (m * up e * 1 % (45 * 8 * down e)) (down e * 1) .2)
+beyond (fin false m e) a b = kept (fin false m e) (rem binary32 (fin false m e) turn) refl (round-plus (m * up e * 1 % (45 * 8 * down e)) (down e * 1))
 beyond (fin true m e) a b = absurd (never (m * up e) (down e) (down-pos e) (nltb→le 0 (m * up e * 1 + 45 * 8 * down e) (no b)))
   where
     never : (n d : ℕ) → 0 < d → n * 1 + 360 * d ≤ 0 → ⊥
