@@ -1,10 +1,9 @@
 //! Calls by the static library and by the Rust, and the pixels they touch.
 
-use std::borrow::Cow;
-
 use crate::answer::{canvas, hash, paint, refusal};
-use crate::canvas::{Clip, Color, Image, ImageBuffer, ImageBufferCanvas};
+use crate::canvas::{Clip, Color, ImageBuffer, ImageBufferCanvas};
 use crate::case::{Area, Call, Case, Screen};
+use crate::tally::blank;
 use crate::tuyrashka::{self, Canvas};
 
 /// The number of a call, and its count.
@@ -90,31 +89,7 @@ struct Marks {
     marks: Vec<bool>,
 }
 
-impl Image for Marks {
-    fn width(&self) -> u32 {
-        self.width
-    }
-
-    fn height(&self) -> u32 {
-        self.height
-    }
-
-    fn bytes_per_pixel(&self) -> u32 {
-        0
-    }
-
-    fn get_pixel(&self, _: i32, _: i32) -> Color {
-        unreachable!("with XOR on nothing is read")
-    }
-
-    fn raw(&self) -> Cow<'_, [u8]> {
-        Cow::Borrowed(&[])
-    }
-
-    fn colors(&self) -> Vec<Color> {
-        Vec::new()
-    }
-}
+blank!(Marks);
 
 impl ImageBuffer for Marks {
     fn put_pixel(&mut self, _: i32, _: i32, _: Color) {

@@ -1,8 +1,39 @@
 //! A screen without pixels, which counts what lands on it.
 
-use std::borrow::Cow;
+use crate::canvas::{Color, ImageBuffer};
 
-use crate::canvas::{Color, Image, ImageBuffer};
+/// A screen of a width and a height is an image from which nothing is read.
+macro_rules! blank {
+    ($screen:ty) => {
+        impl $crate::canvas::Image for $screen {
+            fn width(&self) -> u32 {
+                self.width
+            }
+
+            fn height(&self) -> u32 {
+                self.height
+            }
+
+            fn bytes_per_pixel(&self) -> u32 {
+                0
+            }
+
+            fn get_pixel(&self, _: i32, _: i32) -> $crate::canvas::Color {
+                $crate::canvas::Color { a: 0, r: 0, g: 0, b: 0 }
+            }
+
+            fn raw(&self) -> std::borrow::Cow<'_, [u8]> {
+                std::borrow::Cow::Borrowed(&[])
+            }
+
+            fn colors(&self) -> Vec<$crate::canvas::Color> {
+                Vec::new()
+            }
+        }
+    };
+}
+#[allow(unused_imports)] // for oracle/lists
+pub(crate) use blank;
 
 pub struct Tally {
     pub width: u32,
@@ -10,31 +41,7 @@ pub struct Tally {
     pub landed: u64,
 }
 
-impl Image for Tally {
-    fn width(&self) -> u32 {
-        self.width
-    }
-
-    fn height(&self) -> u32 {
-        self.height
-    }
-
-    fn bytes_per_pixel(&self) -> u32 {
-        0
-    }
-
-    fn get_pixel(&self, _: i32, _: i32) -> Color {
-        Color { a: 0, r: 0, g: 0, b: 0 }
-    }
-
-    fn raw(&self) -> Cow<'_, [u8]> {
-        Cow::Borrowed(&[])
-    }
-
-    fn colors(&self) -> Vec<Color> {
-        Vec::new()
-    }
-}
+blank!(Tally);
 
 impl ImageBuffer for Tally {
     fn put_pixel(&mut self, x: i32, y: i32, _: Color) {
