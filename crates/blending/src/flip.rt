@@ -1,8 +1,8 @@
-// ARGB words drawn with XOR on, one loop for each format.
+// ARGB words drawn with XOR on.
 ghost use mathlib.Core.Path.{_≡_};
 ghost use mathlib.Core.Bool.{true};
 ghost use Prim.Native.Nat.{_≤_};
-ghost use Rattle.words.specs.Format.{formatOf, rgb332, rgb565, rgb8, argb, abgr};
+ghost use Rattle.words.specs.Format.{formatOf, argb, abgr};
 ghost use Rattle.words.specs.Word.{fromColor, toColor};
 ghost use Rattle.blending.specs.Blend.{blendWord};
 ghost use Rattle.blending.specs.Inner.{faint};
@@ -54,57 +54,26 @@ fn flip_abgr(source: u32, raw: u32) -> u32
     4278190080 + (raw ^ word) % 16777216
 }
 
-pub(crate) fn flips332(colors: &[u32], words: &mut [u32])
-    ensures { λ _. ⌜ now (words .exit) ≡ blended rgb332 true (now (colors .entry)) (now (words .entry)) ⌝ }
+// An ARGB word over a word of any format.
+fn flipped(format: u32, source: u32, raw: u32) -> u32
+    requires { ⌜ format ≤ 4 ⌝ }
+    ensures { λ r. ⌜ r ≡ blendWord (formatOf format) true (toColor argb source) raw ⌝ }
 {
-    let n = shorter(colors.len(), words.len());
-    let mut i = 0;
-    while i < n {
-        words[i] = flip(0, colors[i], words[i]);
-        i += 1;
+    match format {
+        3 => flip_argb(source, raw),
+        4 => flip_abgr(source, raw),
+        _ => flip(format, source, raw),
     }
 }
 
-pub(crate) fn flips565(colors: &[u32], words: &mut [u32])
-    ensures { λ _. ⌜ now (words .exit) ≡ blended rgb565 true (now (colors .entry)) (now (words .entry)) ⌝ }
+pub(crate) fn flips(format: u32, colors: &[u32], words: &mut [u32])
+    requires { ⌜ format ≤ 4 ⌝ }
+    ensures { λ _. ⌜ now (words .exit) ≡ blended (formatOf format) true (now (colors .entry)) (now (words .entry)) ⌝ }
 {
     let n = shorter(colors.len(), words.len());
     let mut i = 0;
     while i < n {
-        words[i] = flip(1, colors[i], words[i]);
-        i += 1;
-    }
-}
-
-pub(crate) fn flips_rgb8(colors: &[u32], words: &mut [u32])
-    ensures { λ _. ⌜ now (words .exit) ≡ blended rgb8 true (now (colors .entry)) (now (words .entry)) ⌝ }
-{
-    let n = shorter(colors.len(), words.len());
-    let mut i = 0;
-    while i < n {
-        words[i] = flip(2, colors[i], words[i]);
-        i += 1;
-    }
-}
-
-pub(crate) fn flips_argb(colors: &[u32], words: &mut [u32])
-    ensures { λ _. ⌜ now (words .exit) ≡ blended argb true (now (colors .entry)) (now (words .entry)) ⌝ }
-{
-    let n = shorter(colors.len(), words.len());
-    let mut i = 0;
-    while i < n {
-        words[i] = flip_argb(colors[i], words[i]);
-        i += 1;
-    }
-}
-
-pub(crate) fn flips_abgr(colors: &[u32], words: &mut [u32])
-    ensures { λ _. ⌜ now (words .exit) ≡ blended abgr true (now (colors .entry)) (now (words .entry)) ⌝ }
-{
-    let n = shorter(colors.len(), words.len());
-    let mut i = 0;
-    while i < n {
-        words[i] = flip_abgr(colors[i], words[i]);
+        words[i] = flipped(format, colors[i], words[i]);
         i += 1;
     }
 }

@@ -1,13 +1,14 @@
-// Runs of words: those that `draw` reads, and those that it draws on. The format is looked at outside the loops.
+// Runs of words: those that `draw` reads, and those that it draws on. The compiler takes the choice by format out of
+// these loops, but not out of XOR's, which is called with each number by itself.
 ghost use mathlib.Core.Path.{_≡_};
-ghost use mathlib.Core.Bool.{true, false};
+ghost use mathlib.Core.Bool.{true};
 ghost use Prim.Native.Nat.{_≤_, min};
 ghost use Rattle.words.specs.Format.{formatOf};
 ghost use Rattle.blending.specs.Loops.{argbOf, blended, stored};
 use crate::flip;
 use crate::over;
-use crate::read;
-use crate::store;
+use crate::read::argb_of;
+use crate::store::store;
 
 pub(crate) fn shorter(a: usize, b: usize) -> usize
     ensures { λ r. ⌜ r ≡ min a b ⌝ }
@@ -23,38 +24,24 @@ pub fn read_colors(format: u32, words: &mut [u32])
     requires { ⌜ format ≤ 4 ⌝ }
     ensures { λ _. ⌜ now (words .exit) ≡ argbOf (formatOf format) (now (words .entry)) ⌝ }
 {
-    match format {
-        0 => read::read332(words),
-        1 => read::read565(words),
-        2 => read::read_rgb8(words),
-        3 => {}
-        _ => read::read_abgr(words),
+    let mut i = 0;
+    while i < words.len() {
+        words[i] = argb_of(format, words[i]);
+        i += 1;
     }
 }
 
-fn over_words(format: u32, colors: &[u32], words: &mut [u32])
-    requires { ⌜ format ≤ 4 ⌝ }
-    ensures { λ _. ⌜ now (words .exit) ≡ blended (formatOf format) false (now (colors .entry)) (now (words .entry)) ⌝ }
-{
-    match format {
-        0 => over::overs332(colors, words),
-        1 => over::overs565(colors, words),
-        2 => over::overs_rgb8(colors, words),
-        3 => over::overs_argb(colors, words),
-        _ => over::overs_abgr(colors, words),
-    }
-}
-
+// By a literal in each call the loop is made once for each format.
 fn flip_words(format: u32, colors: &[u32], words: &mut [u32])
     requires { ⌜ format ≤ 4 ⌝ }
     ensures { λ _. ⌜ now (words .exit) ≡ blended (formatOf format) true (now (colors .entry)) (now (words .entry)) ⌝ }
 {
     match format {
-        0 => flip::flips332(colors, words),
-        1 => flip::flips565(colors, words),
-        2 => flip::flips_rgb8(colors, words),
-        3 => flip::flips_argb(colors, words),
-        _ => flip::flips_abgr(colors, words),
+        0 => flip::flips(0, colors, words),
+        1 => flip::flips(1, colors, words),
+        2 => flip::flips(2, colors, words),
+        3 => flip::flips(3, colors, words),
+        _ => flip::flips(4, colors, words),
     }
 }
 
@@ -66,7 +53,7 @@ pub fn blend_words(format: u32, xor: bool, colors: &[u32], words: &mut [u32])
     if xor {
         flip_words(format, colors, words)
     } else {
-        over_words(format, colors, words)
+        over::overs(format, colors, words)
     }
 }
 
@@ -76,11 +63,10 @@ pub fn store_words(format: u32, colors: &[u32], words: &mut [u32])
     requires { ⌜ format ≤ 4 ⌝ }
     ensures { λ _. ⌜ now (words .exit) ≡ stored (formatOf format) (now (colors .entry)) (now (words .entry)) ⌝ }
 {
-    match format {
-        0 => store::stores332(colors, words),
-        1 => store::stores565(colors, words),
-        2 => store::stores_rgb8(colors, words),
-        3 => store::stores_argb(colors, words),
-        _ => store::stores_abgr(colors, words),
+    let n = shorter(colors.len(), words.len());
+    let mut i = 0;
+    while i < n {
+        words[i] = store(format, colors[i]);
+        i += 1;
     }
 }

@@ -1,8 +1,8 @@
-// Words read as ARGB words, one loop for each format.
+// A word read as an ARGB word, by format.
 ghost use mathlib.Core.Path.{_≡_};
-ghost use Rattle.words.specs.Format.{rgb332, rgb565, rgb8, argb, abgr};
+ghost use Prim.Native.Nat.{_≤_};
+ghost use Rattle.words.specs.Format.{formatOf, rgb332, rgb565, rgb8, argb, abgr};
 ghost use Rattle.words.specs.Word.{fromColor, toColor};
-ghost use Rattle.blending.specs.Loops.{argbOf};
 use crate::level5_of;
 use crate::level6_of;
 
@@ -33,42 +33,16 @@ fn argb_abgr(raw: u32) -> u32
     raw / 16777216 * 16777216 + raw % 256 * 65536 + raw / 256 % 256 * 256 + raw / 65536 % 256
 }
 
-pub(crate) fn read332(words: &mut [u32])
-    ensures { λ _. ⌜ now (words .exit) ≡ argbOf rgb332 (now (words .entry)) ⌝ }
+// An ARGB word is read as it is.
+pub(crate) fn argb_of(format: u32, raw: u32) -> u32
+    requires { ⌜ format ≤ 4 ⌝ }
+    ensures { λ r. ⌜ r ≡ fromColor argb (toColor (formatOf format) raw) ⌝ }
 {
-    let mut i = 0;
-    while i < words.len() {
-        words[i] = argb332(words[i]);
-        i += 1;
-    }
-}
-
-pub(crate) fn read565(words: &mut [u32])
-    ensures { λ _. ⌜ now (words .exit) ≡ argbOf rgb565 (now (words .entry)) ⌝ }
-{
-    let mut i = 0;
-    while i < words.len() {
-        words[i] = argb565(words[i]);
-        i += 1;
-    }
-}
-
-pub(crate) fn read_rgb8(words: &mut [u32])
-    ensures { λ _. ⌜ now (words .exit) ≡ argbOf rgb8 (now (words .entry)) ⌝ }
-{
-    let mut i = 0;
-    while i < words.len() {
-        words[i] = argb_rgb8(words[i]);
-        i += 1;
-    }
-}
-
-pub(crate) fn read_abgr(words: &mut [u32])
-    ensures { λ _. ⌜ now (words .exit) ≡ argbOf abgr (now (words .entry)) ⌝ }
-{
-    let mut i = 0;
-    while i < words.len() {
-        words[i] = argb_abgr(words[i]);
-        i += 1;
+    match format {
+        0 => argb332(raw),
+        1 => argb565(raw),
+        2 => argb_rgb8(raw),
+        3 => raw,
+        _ => argb_abgr(raw),
     }
 }

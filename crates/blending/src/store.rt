@@ -1,9 +1,8 @@
-// ARGB words stored, one loop for each format.
+// An ARGB word stored, by format.
 ghost use mathlib.Core.Path.{_≡_};
-ghost use Rattle.words.specs.Format.{rgb332, rgb565, rgb8, argb, abgr};
+ghost use Prim.Native.Nat.{_≤_};
+ghost use Rattle.words.specs.Format.{formatOf, rgb332, rgb565, rgb8, argb, abgr};
 ghost use Rattle.words.specs.Word.{fromColor, toColor};
-ghost use Rattle.blending.specs.Loops.{stored};
-use crate::loops::shorter;
 
 fn store332(source: u32) -> u32
     ensures { λ r. ⌜ r ≡ fromColor rgb332 (toColor argb source) ⌝ }
@@ -26,12 +25,6 @@ fn store_rgb8(source: u32) -> u32
     source % 16777216
 }
 
-fn store_argb(source: u32) -> u32
-    ensures { λ r. ⌜ r ≡ fromColor argb (toColor argb source) ⌝ }
-{
-    source
-}
-
 fn store_abgr(source: u32) -> u32
     ensures { λ r. ⌜ r ≡ fromColor abgr (toColor argb source) ⌝ }
 {
@@ -40,57 +33,16 @@ fn store_abgr(source: u32) -> u32
     source / 16777216 * 16777216 + b * 65536 + source / 256 % 256 * 256 + r
 }
 
-pub(crate) fn stores332(colors: &[u32], words: &mut [u32])
-    ensures { λ _. ⌜ now (words .exit) ≡ stored rgb332 (now (colors .entry)) (now (words .entry)) ⌝ }
+// An ARGB word is stored as it is.
+pub(crate) fn store(format: u32, source: u32) -> u32
+    requires { ⌜ format ≤ 4 ⌝ }
+    ensures { λ r. ⌜ r ≡ fromColor (formatOf format) (toColor argb source) ⌝ }
 {
-    let n = shorter(colors.len(), words.len());
-    let mut i = 0;
-    while i < n {
-        words[i] = store332(colors[i]);
-        i += 1;
-    }
-}
-
-pub(crate) fn stores565(colors: &[u32], words: &mut [u32])
-    ensures { λ _. ⌜ now (words .exit) ≡ stored rgb565 (now (colors .entry)) (now (words .entry)) ⌝ }
-{
-    let n = shorter(colors.len(), words.len());
-    let mut i = 0;
-    while i < n {
-        words[i] = store565(colors[i]);
-        i += 1;
-    }
-}
-
-pub(crate) fn stores_rgb8(colors: &[u32], words: &mut [u32])
-    ensures { λ _. ⌜ now (words .exit) ≡ stored rgb8 (now (colors .entry)) (now (words .entry)) ⌝ }
-{
-    let n = shorter(colors.len(), words.len());
-    let mut i = 0;
-    while i < n {
-        words[i] = store_rgb8(colors[i]);
-        i += 1;
-    }
-}
-
-pub(crate) fn stores_argb(colors: &[u32], words: &mut [u32])
-    ensures { λ _. ⌜ now (words .exit) ≡ stored argb (now (colors .entry)) (now (words .entry)) ⌝ }
-{
-    let n = shorter(colors.len(), words.len());
-    let mut i = 0;
-    while i < n {
-        words[i] = store_argb(colors[i]);
-        i += 1;
-    }
-}
-
-pub(crate) fn stores_abgr(colors: &[u32], words: &mut [u32])
-    ensures { λ _. ⌜ now (words .exit) ≡ stored abgr (now (colors .entry)) (now (words .entry)) ⌝ }
-{
-    let n = shorter(colors.len(), words.len());
-    let mut i = 0;
-    while i < n {
-        words[i] = store_abgr(colors[i]);
-        i += 1;
+    match format {
+        0 => store332(source),
+        1 => store565(source),
+        2 => store_rgb8(source),
+        3 => source,
+        _ => store_abgr(source),
     }
 }

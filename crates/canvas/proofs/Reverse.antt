@@ -13,22 +13,25 @@ use Rattle.words.proofs.Laws.{Channels, plot-keeps, plot-swap, plot-twice, sett
 use Rattle.words.proofs.Reading.{read-channels}
 use Rattle.blending.specs.Blend.{part, scaled, blendWord}
 use Rattle.blending.proofs.Laws.{scaled-channels}
-use Rattle.canvas.specs.declared.Canvas.{Canvas}
+use Rattle.pixels.specs.declared.Canvas.{Canvas}
 use Rattle.canvas.specs.declared.Clip.{Clip}
 use Rattle.canvas.specs.declared.Refusal.{Refusal}
 use Rattle.canvas.specs.declared.faults.Verdict.{Verdict}
 use Rattle.canvas.specs.declared.faults.Verdict.the-variants.{Sound, Faulty}
-use Rattle.canvas.specs.Bytes.{form, On}
+use Rattle.pixels.specs.Bytes.{form, On}
 use Rattle.canvas.specs.Faults.{orElse, verdict}
-use Rattle.canvas.specs.Plot.{Point, Dot, tint, plot, dip, landed, fate, Hit, hitOf, hits, paint}
+use Rattle.canvas.specs.Plot.{Point, Dot, tint, plot, dip, landed, fate, hitOf, hits}
+use Rattle.pixels.specs.Hits.{Hit, paint}
 use Rattle.canvas.specs.Call.{Call, putPixel, drawLine, drawRect, fillRect, drawArc, fillArc, drawRoundRect, fillRoundRect, draw, clipOf, faultOf, sourceColor, dots, brush, plots, ruled, drawing, call}
-use Rattle.canvas.specs.Boxes.{each, picture}
+use Rattle.pixels.specs.Rows.{each}
+use Rattle.canvas.specs.Boxes.{picture}
 use Rattle.canvas.specs.Calls.{after, unless, landing}
-use Rattle.canvas.proofs.bytes.Cells.{Bytes}
+use Rattle.pixels.proofs.bytes.Cells.{Bytes}
 use Rattle.canvas.proofs.faults.Verdicts.{sized}
 use Rattle.canvas.proofs.plot.Fates.{lands-on}
-use Rattle.canvas.proofs.rows.Rows.{paint-length}
-use Rattle.canvas.proofs.plot.Orders.{perm-of, Screen, Family, All, none, all-append, keep-all, paint-screen, paint-append, paint-perm, doubled, paint-back, paint-none}
+use Rattle.pixels.proofs.Hits.{paint-length, paint-append}
+use Rattle.pixels.proofs.Orders.{perm-of, Screen, Family, All, none, all-append, paint-screen, paint-perm, doubled, paint-back, paint-none}
+use Rattle.canvas.proofs.plot.Landed.{keep-all}
 
 -- calls whose colours are of bytes, as every caller's are
 abbrev pub Colored : Call → Type 0

@@ -22,22 +22,23 @@ use Rattle.words.specs.Word.{toColor, color}
 use Rattle.words.proofs.Color as color-type
 use Rattle.words.proofs.Color.Laws as color-laws
 use Rattle.words.proofs.Laws.{Channels}
-use Rattle.canvas.specs.declared.Canvas.{Canvas}
+use Rattle.pixels.specs.declared.Canvas.{Canvas}
 use Rattle.canvas.specs.declared.Clip.{Clip}
 use Rattle.canvas.specs.declared.Drawn.{Drawn}
 use Rattle.canvas.specs.declared.Drawn.the-variants.{Refused, Done}
 use Rattle.canvas.specs.declared.Refusal.{Refusal}
 use Rattle.canvas.specs.declared.faults.Verdict.{Verdict}
 use Rattle.canvas.specs.declared.faults.Verdict.the-variants.{Sound, Faulty}
-use Rattle.canvas.specs.Bytes.{form, loadAt, On}
+use Rattle.pixels.specs.Bytes.{form, loadAt, On}
 use Rattle.canvas.specs.Faults.{orElse, verdict}
-use Rattle.canvas.specs.Plot.{Hit, hits, paint}
+use Rattle.pixels.specs.Hits.{Hit, paint}
+use Rattle.canvas.specs.Plot.{hits}
 use Rattle.canvas.specs.Call.{Call, putPixel, drawLine, drawRect, fillRect, drawArc, fillArc, drawRoundRect, fillRoundRect, clipOf, faultOf, plots, Outcome, statusOf, countOf, leaves, ruled, drawing, call}
 use Rattle.canvas.specs.Call.{draw as drawCall}
 use Rattle.canvas.specs.Calls.{after, veiled}
-use Rattle.canvas.proofs.bytes.Cells.{Bytes}
+use Rattle.pixels.proofs.bytes.Cells.{Bytes}
 use Rattle.canvas.proofs.faults.Verdicts.{sized}
-use Rattle.canvas.proofs.rows.Rows.{paint-length}
+use Rattle.pixels.proofs.Hits.{paint-length}
 use Rattle.canvas.proofs.Determined.{leaves-same}
 use Rattle.canvas.proofs.Reverse.{Colored, Fine, end, then}
 use Rattle.canvas.proofs.Reverse as reverse

@@ -12,18 +12,20 @@ use lib.ListN.{length}
 use Rattle.words.specs.Format.{range}
 use Rattle.words.specs.Ink.{keepsAlpha, settles}
 use Rattle.words.proofs.Laws.{plot-keeps, plot-twice}
-use Rattle.canvas.specs.declared.Canvas.{Canvas}
+use Rattle.pixels.specs.declared.Canvas.{Canvas}
 use Rattle.canvas.specs.declared.Clip.{Clip}
 use Rattle.canvas.specs.declared.faults.Verdict.{Verdict}
 use Rattle.canvas.specs.declared.faults.Verdict.the-variants.{Sound, Faulty}
-use Rattle.canvas.specs.Bytes.{form, loadAt, storeAt, On}
+use Rattle.pixels.specs.Bytes.{form, loadAt, storeAt, On}
 use Rattle.canvas.specs.Clip.{both}
 use Rattle.canvas.specs.Faults.{verdict}
-use Rattle.canvas.specs.Plot.{plot, Dot, dip, Fate, landed, outside, clipped, fate, Hit, hitOf, keep, hits, touch, paint}
+use Rattle.canvas.specs.Plot.{plot, Dot, dip, Fate, landed, outside, clipped, fate, hitOf, keep, hits}
+use Rattle.pixels.specs.Hits.{Hit, touch, paint}
 use Rattle.canvas.specs.Call.{Call, clipOf, faultOf, dots, brush, plots}
 use Rattle.canvas.specs.Calls.{after, unless, landing, struck, visible, veiled}
-use Rattle.canvas.proofs.bytes.Pixels.{load-lt, load-store, load-other}
-use Rattle.canvas.proofs.plot.Orders.{Screen, paint-screen, paint-append, doubled}
+use Rattle.pixels.proofs.bytes.Pixels.{load-lt, load-store, load-other}
+use Rattle.pixels.proofs.Orders.{Screen, paint-screen, doubled}
+use Rattle.pixels.proofs.Hits.{paint-append}
 use Rattle.canvas.proofs.Reverse.{Colored, Fine, end, then, Dots, no-more, and, shaded, Xored, xored, one-xored, all-hits, made-again}
 
 -- the word with alpha 255

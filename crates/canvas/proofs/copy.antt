@@ -1,2 +1,3 @@
 -- The laws of area copies.
 pub mod Moves
+pub mod Chunked

@@ -3,5 +3,5 @@ pub mod Fates
 pub mod Draws
 pub mod Paints
 pub mod Answers
-pub mod Orders
+pub mod Landed
 pub mod Dabs

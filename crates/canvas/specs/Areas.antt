@@ -6,9 +6,9 @@ use lib.IntN.{ℤ, natAbs}
 use lib.ListN.{length}
 use Rattle.words.specs.Word.{fromColor, toColor}
 use Rattle.words.specs.Invert.{invertWord}
-use Rattle.canvas.specs.declared.Canvas.{Canvas}
+use Rattle.pixels.specs.declared.Canvas.{Canvas}
 use Rattle.canvas.specs.declared.Clip.{Clip}
-use Rattle.canvas.specs.Bytes.{form, loadAt}
+use Rattle.pixels.specs.Bytes.{form, loadAt}
 use Rattle.canvas.specs.Faults.{verdict}
 use Rattle.canvas.specs.Plot.{inks}
 use Rattle.canvas.specs.Boxes.{fill, spots, sourceOf, shown}

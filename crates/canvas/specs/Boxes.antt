@@ -6,7 +6,8 @@ use lib.Dec.{eqb}
 use lib.IntN.{ℤ, pos, _+ℤ_, _-ℤ_}
 use lib.Signed.{ltZ}
 use Rattle.words.specs.declared.Color.{Color}
-use Rattle.canvas.specs.declared.Canvas.{Canvas}
+use Rattle.pixels.specs.declared.Canvas.{Canvas}
+use Rattle.pixels.specs.Rows.{each}
 use Rattle.canvas.specs.Clip.{both, within}
 use Rattle.canvas.specs.Plot.{Point, at, Plot, plot, Dot, dot}
 
@@ -18,11 +19,6 @@ select t i (suc n) = cond (t i) (i ∷ select t (suc i) n) (select t (suc i) n)
 -- The columns of a canvas n wide (or the rows of one n high) that lie in the span of len from a.
 abbrev pub side : ℤ → ℕ → ℕ → List ℕ
 side a len n = select (λ i. within a len (pos i)) 0 n
-
--- What each number gives, one number after the other.
-unfoldable pub each : {A : Type 0} → (ℕ → List A) → List ℕ → List A
-each g [] = []
-each g (x ∷ xs) = g x ++ each g xs
 
 -- A plot at each pixel of some columns and rows, row by row; its ink may hang on the pixel.
 unfoldable pub spots : (ℕ → ℕ → ℕ → ℕ) → List ℕ → List ℕ → List Plot

@@ -7,15 +7,16 @@ use Rattle.words.specs.declared.Color.{Color}
 use Rattle.words.specs.Word.{toColor}
 use Rattle.words.specs.Ink.{plotWord}
 use Rattle.blending.specs.Blend.{blendWord}
-use Rattle.canvas.specs.declared.Canvas.{Canvas}
+use Rattle.pixels.specs.declared.Canvas.{Canvas}
 use Rattle.canvas.specs.declared.Clip.{Clip}
 use Rattle.canvas.specs.declared.Drawn.{Drawn}
 use Rattle.canvas.specs.declared.Drawn.the-variants.{Refused, Done}
 use Rattle.canvas.specs.declared.faults.Verdict.{Verdict}
 use Rattle.canvas.specs.declared.faults.Verdict.the-variants.{Sound, Faulty}
-use Rattle.canvas.specs.Bytes.{form, loadAt}
+use Rattle.pixels.specs.Bytes.{form, loadAt}
 use Rattle.canvas.specs.Faults.{number, orElse, verdict, asSource, shapeFault, arcFault}
-use Rattle.canvas.specs.Plot.{Plot, at, Dot, tint, dip, hits, paint}
+use Rattle.canvas.specs.Plot.{Plot, at, Dot, tint, dip, hits}
+use Rattle.pixels.specs.Hits.{paint}
 use Rattle.canvas.specs.Lines.{line}
 use Rattle.canvas.specs.Boxes.{fill, outline, picture, sourceOf, shown}
 use Rattle.canvas.specs.Strokes.{arc, roundOutline}

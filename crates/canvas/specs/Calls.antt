@@ -3,11 +3,12 @@ use mathlib.Core.Bool.{Bool, true, false, cond}
 use mathlib.Core.List.{List, [], _∷_}
 use Prim.Native.Nat.{ℕ}
 use lib.Dec.{eqb}
-use Rattle.canvas.specs.declared.Canvas.{Canvas}
+use Rattle.pixels.specs.declared.Canvas.{Canvas}
 use Rattle.canvas.specs.declared.faults.Verdict.{Verdict}
 use Rattle.canvas.specs.declared.faults.Verdict.the-variants.{Sound, Faulty}
 use Rattle.canvas.specs.Clip.{both}
-use Rattle.canvas.specs.Plot.{Dot, dip, Hit, hits}
+use Rattle.canvas.specs.Plot.{Dot, dip, hits}
+use Rattle.pixels.specs.Hits.{Hit}
 use Rattle.canvas.specs.Call.{Call, clipOf, faultOf, dots, brush, call}
 
 -- What the lent bytes hold after them.

@@ -6,9 +6,10 @@ use lib.Dec.{eqb}
 use lib.IntN.{ℤ, pos}
 use Rattle.curves.specs.Pies.{inPie}
 use Rattle.curves.specs.Corners.{inRound}
-use Rattle.canvas.specs.declared.Canvas.{Canvas}
+use Rattle.pixels.specs.declared.Canvas.{Canvas}
 use Rattle.canvas.specs.Plot.{Point, at}
-use Rattle.canvas.specs.Boxes.{side, each, fill}
+use Rattle.canvas.specs.Boxes.{side, fill}
+use Rattle.pixels.specs.Rows.{each}
 
 -- Those of some columns and rows whose pixels pass a test, row by row.
 unfoldable pub sieve : (ℕ → ℕ → Bool) → List ℕ → List ℕ → List Point

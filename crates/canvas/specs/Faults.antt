@@ -1,18 +1,15 @@
 -- Which canvases, angles and boxes are refused, and by which number.
 use mathlib.Core.Bool.{Bool, cond, not, _||_}
-use mathlib.Core.List.{List}
-use mathlib.Core.Path.{_≡_}
 use Prim.Native.Nat.{ℕ, _≤_}
 use lib.Dec.{ltb, eqb}
 use lib.IntN.{ℤ, pos, negsuc, natAbs}
-use lib.ListN.{length}
 use lib.Signed.{ltZ}
-use Rattle.canvas.specs.declared.Canvas.{Canvas}
+use Rattle.pixels.specs.declared.Canvas.{Canvas}
 use Rattle.canvas.specs.declared.Refusal.{Refusal}
 use Rattle.canvas.specs.declared.Refusal.the-variants.{Format, Size, Length, Source, Angle, Shape}
 use Rattle.canvas.specs.declared.faults.Verdict.{Verdict}
 use Rattle.canvas.specs.declared.faults.Verdict.the-variants.{Sound, Faulty}
-use Rattle.canvas.specs.Bytes.{extent}
+use Rattle.pixels.specs.Bytes.{extent}
 
 -- 01's number of each refusal.
 unfoldable pub number : Refusal → ℕ
@@ -68,14 +65,7 @@ shapeFault x y w h =
 unfoldable pub arcFault : ℤ → ℤ → ℕ → ℕ → ℤ → ℤ → Verdict
 arcFault x y w h start arc = orElse (angleFault start arc) (shapeFault x y w h)
 
--- What an inner function may count on. Of a canvas that is not refused:
-pub record Sized (v : Canvas) (b : List ℕ) : Type 0 where
-  pub known : v .format ≤ 4
-  pub wide : v .width ≤ 32767
-  pub high : v .height ≤ 32767
-  pub long : length b ≡ extent v
-
--- Of a box that SHAPE lets pass; it takes x and y of 32,768 in as well.
+-- What an inner function may count on of a box that SHAPE lets pass; it takes x and y of 32,768 in as well.
 pub record Shaped (x y : ℤ) (w h : ℕ) : Type 0 where
   pub left : natAbs x ≤ 32768
   pub top : natAbs y ≤ 32768

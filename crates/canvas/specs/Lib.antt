@@ -1,4 +1,3 @@
-pub mod Bytes
 pub mod Faults
 pub mod Clip
 pub mod Plot
@@ -13,3 +12,4 @@ pub mod Look
 pub mod Walk
 pub mod Trail
 pub mod Sift
+pub mod Start

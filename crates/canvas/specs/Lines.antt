@@ -8,7 +8,7 @@ use Rattle.segments.specs.declared.Segment.{Segment}
 use Rattle.segments.specs.declared.Clipped.{Clipped}
 use Rattle.segments.specs.declared.Clipped.the-variants.{Left, Nothing}
 use Rattle.segments.specs.Cut.{clipSegment}
-use Rattle.canvas.specs.declared.Canvas.{Canvas}
+use Rattle.pixels.specs.declared.Canvas.{Canvas}
 use Rattle.canvas.specs.Plot.{Point, at}
 
 -- Where the walk stands, and its err.

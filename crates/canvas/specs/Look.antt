@@ -6,12 +6,12 @@ use lib.IntN.{ℤ, natAbs}
 use lib.ListN.{length}
 use Rattle.words.specs.declared.Color.{Color}
 use Rattle.words.specs.Word.{toColor}
-use Rattle.canvas.specs.declared.Canvas.{Canvas}
+use Rattle.pixels.specs.declared.Canvas.{Canvas}
 use Rattle.canvas.specs.declared.Pixel.{Pixel}
 use Rattle.canvas.specs.declared.Pixel.the-variants.{Refused, Nothing, Of}
 use Rattle.canvas.specs.declared.faults.Verdict.{Verdict}
 use Rattle.canvas.specs.declared.faults.Verdict.the-variants.{Sound, Faulty}
-use Rattle.canvas.specs.Bytes.{form, loadAt}
+use Rattle.pixels.specs.Bytes.{form, loadAt}
 use Rattle.canvas.specs.Faults.{number, verdict}
 use Rattle.canvas.specs.Plot.{onCanvas}
 

@@ -1,12 +1,12 @@
--- Plots: where they land, what they leave in the bytes, and how many land.
+-- Plots: where they land, and which hits they are then.
 use mathlib.Core.Bool.{Bool, true, false}
 use mathlib.Core.List.{List, [], _∷_}
 use Prim.Native.Nat.{ℕ}
 use lib.IntN.{ℤ, pos, natAbs}
 use Rattle.words.specs.declared.Color.{Color}
-use Rattle.canvas.specs.declared.Canvas.{Canvas}
+use Rattle.pixels.specs.declared.Canvas.{Canvas}
 use Rattle.canvas.specs.declared.Clip.{Clip}
-use Rattle.canvas.specs.Bytes.{loadAt, storeAt}
+use Rattle.pixels.specs.Hits.{Hit, hit}
 use Rattle.canvas.specs.Clip.{both, within, inClip}
 
 -- A shape is a list of points, on the canvas or off it.
@@ -67,15 +67,6 @@ judge false t = outside
 unfoldable pub fate : Canvas → Clip → Plot → Fate
 fate v c p = judge (onCanvas v (p .x) (p .y)) (inClip c (p .x) (p .y))
 
--- A pixel, and what becomes of its word.
-pub record Hit : Type 0 where
-  pub x : ℕ
-  pub y : ℕ
-  pub ink : ℕ → ℕ
-
-abbrev pub hit : (ℕ → ℕ) → ℕ → ℕ → Hit
-hit f x y = record { x = x; y = y; ink = f }
-
 abbrev pub hitOf : Plot → Hit
 hitOf p = hit (p .ink) (natAbs (p .x)) (natAbs (p .y))
 
@@ -88,11 +79,3 @@ keep clipped h hs = hs
 unfoldable pub hits : Canvas → Clip → List Plot → List Hit
 hits v c [] = []
 hits v c (p ∷ ps) = keep (fate v c p) (hitOf p) (hits v c ps)
-
--- The bytes after one hit, and after some in order.
-unfoldable pub touch : Canvas → List ℕ → Hit → List ℕ
-touch v b h = storeAt v b (h .x) (h .y) (h .ink (loadAt v b (h .x) (h .y)))
-
-unfoldable pub paint : Canvas → List Hit → List ℕ → List ℕ
-paint v [] b = b
-paint v (h ∷ hs) b = paint v hs (touch v b h)

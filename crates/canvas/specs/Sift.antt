@@ -7,11 +7,11 @@ use lib.IntN.{ℤ, pos}
 use lib.ListN.{length}
 use Rattle.curves.specs.declared.regions.Region.{Region}
 use Rattle.curves.specs.Regions.{Asked}
-use Rattle.canvas.specs.declared.Canvas.{Canvas}
+use Rattle.pixels.specs.declared.Canvas.{Canvas}
 use Rattle.canvas.specs.Clip.{within}
-use Rattle.canvas.specs.Plot.{Hit, paint}
-use Rattle.canvas.specs.Boxes.{each}
-use Rattle.canvas.specs.Walk.{plus, Work, work, mark, flat}
+use Rattle.pixels.specs.Hits.{Hit, paint}
+use Rattle.pixels.specs.Rows.{each, mark, flat}
+use Rattle.canvas.specs.Walk.{plus, Work, work}
 
 -- A hit on a pixel that passes a test, and those of a part of a row and of a box.
 unfoldable pub sift : (ℕ → ℕ → Bool) → (ℕ → ℕ) → ℕ → ℕ → List Hit

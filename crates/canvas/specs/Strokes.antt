@@ -12,7 +12,7 @@ use Rattle.curves.specs.declared.corners.Corners.{Corners}
 use Rattle.curves.specs.Ovals.{ovalOf}
 use Rattle.curves.specs.Strokes.{stepsOf, strokePoint}
 use Rattle.curves.specs.Corners.{radiusOf, insetOf, cornersOf, cornerOf}
-use Rattle.canvas.specs.declared.Canvas.{Canvas}
+use Rattle.pixels.specs.declared.Canvas.{Canvas}
 use Rattle.canvas.specs.Plot.{Point, at}
 use Rattle.canvas.specs.Boxes.{fill, outline}
 

@@ -1,10 +1,11 @@
 -- What the contracts of the inner functions speak of; no public contract cites this file.
 use mathlib.Core.Path.{_≡_}
-use mathlib.Core.Bool.{Bool, true, false, cond}
-use mathlib.Core.List.{List, [], _∷_}
-use Prim.Native.Nat.{ℕ, zero, suc, _+_, _-_, _<_, _≤_}
+use mathlib.Core.Bool.{Bool, true, false, cond, not}
+use mathlib.Core.List.{List, [], _∷_, _++_}
+use Prim.Native.Nat.{ℕ, _+_, _-_, _<_, _≤_}
 use lib.Dec.{leb, ltb}
 use lib.IntN.{ℤ, pos, negsuc, subℕ}
+use lib.Ieee.{Float}
 use lib.Signed.{leZ, ltZ}
 use lib.ListN.{length, getD}
 use Rattle.words.specs.declared.Ink.{Ink}
@@ -12,15 +13,20 @@ use Rattle.words.specs.Format.{Format, argb, range}
 use Rattle.words.specs.Word.{toColor, seen}
 use Rattle.words.specs.Ink.{inked}
 use Rattle.blending.specs.Blend.{blendWord}
-use Rattle.canvas.specs.declared.Canvas.{Canvas}
+use Rattle.angle.specs.Stroke.{radians}
+use Rattle.curves.specs.declared.corners.Corners.{Corners}
+use Rattle.curves.specs.Corners.{cornerOf}
+use Rattle.pixels.specs.declared.Canvas.{Canvas}
 use Rattle.canvas.specs.declared.Clip.{Clip}
 use Rattle.canvas.specs.declared.Tally.{Tally}
-use Rattle.canvas.specs.declared.span.Span.{Span}
-use Rattle.canvas.specs.Bytes.{load, store, cells, form, loadAt}
-use Rattle.canvas.specs.Faults.{Sized}
+use Rattle.pixels.specs.declared.rows.Span.{Span}
+use Rattle.pixels.specs.Bytes.{form, loadAt, Sized}
 use Rattle.canvas.specs.Clip.{both, within}
-use Rattle.canvas.specs.Boxes.{select, each, sourceOf}
-use Rattle.canvas.specs.Plot.{Point, Plot, plot, Fate, landed, outside, clipped, fate, Hit, hit, hitOf, touch}
+use Rattle.canvas.specs.Boxes.{select, sourceOf}
+use Rattle.pixels.specs.Rows.{run}
+use Rattle.canvas.specs.Strokes.{stroke}
+use Rattle.canvas.specs.Plot.{Point, Plot, plot, Fate, landed, outside, clipped, fate, hitOf}
+use Rattle.pixels.specs.Hits.{touch}
 
 -- A signed number of 32 bits as one that is not negative, 2^31 above it; and back.
 unfoldable pub lifted : ℤ → ℕ
@@ -29,11 +35,6 @@ lifted (negsuc n) = 2147483647 - n
 
 unfoldable pub lowered : ℕ → ℤ
 lowered p = subℕ p 2147483648
-
--- The n numbers from i on.
-unfoldable pub run : ℕ → ℕ → List ℕ
-run i zero = []
-run i (suc n) = i ∷ run (suc i) n
 
 -- A test of numbers that holds from lo up to end, and nowhere else.
 pub record Holds (t : ℕ → Bool) (lo end : ℕ) : Type 0 where
@@ -49,10 +50,6 @@ pub record Cut (lo end : ℕ) (c : ℤ) (m n from to : ℕ) : Type 0 where
   pub ends : from < to → to ≤ end
   pub same : (t : ℕ → Bool) → Holds t lo end → run from (to - from) ≡ select (λ i. both (t i) (within c m (pos i))) 0 n
   pub point : (t : ℕ → Bool) → Holds t lo end → (i : ℕ) → i < n → both (t i) (within c m (pos i)) ≡ both (leb from i) (ltb i to)
-
--- What a touch of the s bytes from o on leaves.
-pub record Touched (s o : ℕ) (f : ℕ → ℕ) (b b′ : List ℕ) : Type 0 where
-  pub same : b′ ≡ store (cells s o) b (f (load (cells s o) b))
 
 -- The tally with one plot more.
 abbrev pub note : Fate → Tally → Tally
@@ -98,28 +95,6 @@ pub record Keeps (v : Canvas) (i : Ink) : Type 0 where
 -- The plots were made.
 pub record Did (v : Canvas) (c : Clip) (ps : List Plot) (w w′ : Work) : Type 0 where
   pub same : w′ ≡ drawn v c ps w
-
--- A hit on a pixel whose ink hangs on the pixel, and those of a part of a row and of a box.
-unfoldable pub mark : (ℕ → ℕ → ℕ → ℕ) → ℕ → ℕ → List Hit
-mark f y x = hit (f x y) x y ∷ []
-
-abbrev pub marks : (ℕ → ℕ → ℕ → ℕ) → List ℕ → ℕ → List Hit
-marks f xs y = each (mark f y) xs
-
-abbrev pub field : (ℕ → ℕ → ℕ → ℕ) → List ℕ → List ℕ → List Hit
-field f xs ys = each (marks f xs) ys
-
--- One ink everywhere.
-abbrev pub flat : (ℕ → ℕ) → ℕ → ℕ → ℕ → ℕ
-flat f x y = f
-
--- What a chunk holds: the words of n pixels of row y from x on.
-pub record Taken (v : Canvas) (b : List ℕ) (y x : ℕ) (ws : List ℕ) : Type 0 where
-  pub word : (i : ℕ) → i < length ws → getD ws i 0 ≡ loadAt v b (x + i) y
-
--- The words of a chunk, laid from x on in place of those stored.
-abbrev pub laid : List ℕ → ℕ → ℕ → ℕ → ℕ → ℕ
-laid ws x i j w = getD ws (i - x) 0
 
 -- What reading sees of each word.
 pub record SeenAs (f : Format) (ws ws′ : List ℕ) : Type 0 where
@@ -175,3 +150,9 @@ pub record Fields (v : Canvas) (xs ys : Span) : Type 0 where
 pub record Window (v : Canvas) (c : Clip) (xs ys : Span) : Type 0 where
   pub columns : Cut 0 (v .width) (c .x) (c .width) (v .width) (xs .from) (xs .to)
   pub rows : Cut 0 (v .height) (c .y) (c .height) (v .height) (ys .from) (ys .to)
+
+-- The two upper or lower quarters at the corners of a round rectangle, from these angles in radians.
+abbrev pub half : Canvas → Corners → Bool → Float → Float → List Point
+half v c low first second =
+    let quarter = radians (pos 90) in
+    stroke v (cornerOf c (not low) low) first quarter ++ stroke v (cornerOf c low low) second quarter

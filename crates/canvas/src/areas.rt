@@ -2,13 +2,14 @@
 ghost use mathlib.Core.Path.{_≡_};
 ghost use Rattle.canvas.specs.Call.{leaves};
 ghost use Rattle.canvas.specs.Areas.{invertRect};
-use crate::Canvas;
 use crate::Clip;
 use crate::Drawn;
 use crate::Tally;
 use crate::boxes::fill_in;
 use crate::faults::Verdict;
+use crate::faults::judge;
 use crate::span::lift;
+use pixels::Canvas;
 
 // The colours of a box, each to its complement.
 pub fn invert_rect(
@@ -22,13 +23,14 @@ pub fn invert_rect(
 ) -> Drawn
     ensures { λ r. ⌜ leaves r (now (bytes .exit)) ≡ invertRect canvas x y w h clip (now (bytes .entry)) ⌝ }
 {
-    let s = crate::faults::judge(canvas, bytes.len());
-    if let Verdict::Faulty(r) = s {
-        return Drawn::Refused(r);
+    match judge(canvas, bytes.len()) {
+        Verdict::Faulty(r) => Drawn::Refused(r),
+        Verdict::Sound => {
+            let ink = words::invert_ink(canvas.format);
+            let p = lift(x);
+            let q = lift(y);
+            let t = fill_in(canvas, bytes, p, q, w, h, ink, clip, Tally { landed: 0 });
+            Drawn::Done(t)
+        }
     }
-    let ink = words::invert_ink(canvas.format);
-    let p = lift(x);
-    let q = lift(y);
-    let t = fill_in(canvas, bytes, p, q, w, h, ink, clip, Tally { landed: 0 });
-    Drawn::Done(t)
 }

@@ -1,23 +1,39 @@
 // Boxes: fills and outlines. Only what lies on the canvas and inside the clip is walked.
 ghost use mathlib.Core.Path.{_≡_};
-ghost use Prim.Native.Nat.{_≤_, _<_};
+ghost use mathlib.Core.Bool.{_||_};
+ghost use mathlib.Core.List.{_++_};
+ghost use Prim.Native.Nat.{_*_, _-_, _≤_, _<_};
+ghost use lib.Dec.{eqb};
 ghost use Rattle.words.specs.Ink.{inked};
 ghost use Rattle.canvas.specs.Plot.{inks};
-ghost use Rattle.canvas.specs.Boxes.{fill, border, outline};
+ghost use Rattle.canvas.specs.Boxes.{fill, outline};
+ghost use Rattle.canvas.specs.Strokes.{edges};
 ghost use Rattle.canvas.specs.Call.{drawRect, fillRect, leaves, call};
 ghost use Rattle.canvas.specs.Walk.{lowered, work, Keeps, Ready, Did};
-use crate::Canvas;
 use crate::Clip;
 use crate::Drawn;
 use crate::Tally;
+use crate::faults::Start;
 use crate::faults::Verdict;
+use crate::faults::begin;
 use crate::plot::landed_more;
-use crate::rows::ink_box;
 use crate::span::cut;
 use crate::span::lift;
 use crate::span::reach;
+use pixels::Canvas;
+use pixels::rows::ink_box;
 use words::Color;
 use words::Ink;
+
+// Whether a box of these sides has no pixels.
+pub(crate) fn is_empty(w: u32, h: u32) -> bool
+    ensures { λ r. ⌜ r ≡ (eqb w 0 || eqb h 0) ⌝ }
+{
+    if w == 0 {
+        return true;
+    }
+    h == 0
+}
 
 // The plots of a filled box with a lifted corner.
 pub(crate) fn fill_in(
@@ -54,43 +70,77 @@ pub fn fill_rect(
 ) -> Drawn
     ensures { λ r. ⌜ leaves r (now (bytes .exit)) ≡ call canvas (fillRect x y w h color clip) (now (bytes .entry)) ⌝ }
 {
-    let s = crate::faults::judge(canvas, bytes.len());
-    if let Verdict::Faulty(r) = s {
-        return Drawn::Refused(r);
+    match begin(canvas, bytes.len(), Verdict::Sound, color) {
+        Start::Refused(r) => Drawn::Refused(r),
+        Start::With(ink) => {
+            let p = lift(x);
+            let q = lift(y);
+            let t = fill_in(canvas, bytes, p, q, w, h, ink, clip, Tally { landed: 0 });
+            Drawn::Done(t)
+        }
     }
-    let ink = words::plot_ink(canvas.format, canvas.xor, color);
-    let p = lift(x);
-    let q = lift(y);
-    let t = fill_in(canvas, bytes, p, q, w, h, ink, clip, Tally { landed: 0 });
-    Drawn::Done(t)
 }
 
-// The plots of the border of a box of two columns and rows at least: its four sides, the corners with the rows.
-fn border_in(
+// How long an edge is between two corners.
+fn between(side: u32, inset: u32) -> u32
+    ensures { λ r. ⌜ r ≡ side - 2 * inset ⌝ }
+{
+    if side / 2 < inset {
+        return 0;
+    }
+    side - 2 * inset
+}
+
+// The plots of two filled boxes of one size, with lifted corners.
+fn pair_in(
     canvas: Canvas,
     b: &mut [u8],
     p: u64,
     q: u64,
+    u: u64,
+    v: u64,
     w: u32,
     h: u32,
     ink: Ink,
     clip: Clip,
     t: Tally,
 ) -> Tally
-    requires { ⌜ (Ready canvas clip (inks (inked ink) (border canvas (lowered p) (lowered q) w h)) (work (now b) t)) × ((p < 4294967296) × ((q < 4294967296) × ((2 ≤ w) × ((2 ≤ h) × (Keeps canvas ink))))) ⌝ }
-    ensures { λ r. ⌜ Did canvas clip (inks (inked ink) (border canvas (lowered p) (lowered q) w h)) (work (now (b .entry)) t) (work (now (b .exit)) r) ⌝ }
+    requires { ⌜ (Ready canvas clip (inks (inked ink) (fill canvas (lowered p) (lowered q) w h ++ fill canvas (lowered u) (lowered v) w h)) (work (now b) t)) × ((p < 17179869184) × ((q < 17179869184) × ((u < 17179869184) × (v < 17179869184)))) ⌝ }
+    ensures { λ r. ⌜ Did canvas clip (inks (inked ink) (fill canvas (lowered p) (lowered q) w h ++ fill canvas (lowered u) (lowered v) w h)) (work (now (b .entry)) t) (work (now (b .exit)) r) ⌝ }
 {
-    let right = p + (w - 1) as u64;
-    let bottom = q + (h - 1) as u64;
-    let inner = q + 1;
-    let rows = h - 2;
-    let t1 = fill_in(canvas, b, p, q, w, 1, ink, clip, t);
-    let t2 = fill_in(canvas, b, p, bottom, w, 1, ink, clip, t1);
-    let t3 = fill_in(canvas, b, p, inner, 1, rows, ink, clip, t2);
-    fill_in(canvas, b, right, inner, 1, rows, ink, clip, t3)
+    let n = fill_in(canvas, b, p, q, w, h, ink, clip, t);
+    fill_in(canvas, b, u, v, w, h, ink, clip, n)
 }
 
-// The plots of an outline with a lifted corner.
+// The plots of the straight edges of a box with a lifted corner, which are this far in from its corners.
+pub(crate) fn edges_in(
+    canvas: Canvas,
+    b: &mut [u8],
+    p: u64,
+    q: u64,
+    w: u32,
+    h: u32,
+    rx: u32,
+    ry: u32,
+    ink: Ink,
+    clip: Clip,
+    t: Tally,
+) -> Tally
+    requires { ⌜ (Ready canvas clip (inks (inked ink) (edges canvas (lowered p) (lowered q) w h rx ry)) (work (now b) t)) × ((p < 4294967296) × ((q < 4294967296) × ((1 ≤ w) × (1 ≤ h)))) ⌝ }
+    ensures { λ r. ⌜ Did canvas clip (inks (inked ink) (edges canvas (lowered p) (lowered q) w h rx ry)) (work (now (b .entry)) t) (work (now (b .exit)) r) ⌝ }
+{
+    let x = p + rx as u64;
+    let y = q + ry as u64;
+    let right = p + (w - 1) as u64;
+    let bottom = q + (h - 1) as u64;
+    let across = between(w, rx);
+    let along = between(h, ry);
+    let n = pair_in(canvas, b, x, q, x, bottom, across, 1, ink, clip, t);
+    pair_in(canvas, b, p, y, right, y, 1, along, ink, clip, n)
+}
+
+// The plots of an outline with a lifted corner: of a box of one column or row the fill, of a larger one the edges, with the
+// corners in the rows.
 pub(crate) fn outline_in(
     canvas: Canvas,
     b: &mut [u8],
@@ -105,19 +155,10 @@ pub(crate) fn outline_in(
     requires { ⌜ (Ready canvas clip (inks (inked ink) (outline canvas (lowered p) (lowered q) w h)) (work (now b) t)) × ((p < 4294967296) × ((q < 4294967296) × (Keeps canvas ink))) ⌝ }
     ensures { λ r. ⌜ Did canvas clip (inks (inked ink) (outline canvas (lowered p) (lowered q) w h)) (work (now (b .entry)) t) (work (now (b .exit)) r) ⌝ }
 {
-    if w == 0 {
-        return t;
-    }
-    if h == 0 {
-        return t;
-    }
-    if w == 1 {
+    if is_empty(w / 2, h / 2) {
         return fill_in(canvas, b, p, q, w, h, ink, clip, t);
     }
-    if h == 1 {
-        return fill_in(canvas, b, p, q, w, h, ink, clip, t);
-    }
-    border_in(canvas, b, p, q, w, h, ink, clip, t)
+    edges_in(canvas, b, p, q, w, h, 0, 1, ink, clip, t)
 }
 
 // The outline of a box.
@@ -133,13 +174,13 @@ pub fn draw_rect(
 ) -> Drawn
     ensures { λ r. ⌜ leaves r (now (bytes .exit)) ≡ call canvas (drawRect x y w h color clip) (now (bytes .entry)) ⌝ }
 {
-    let s = crate::faults::judge(canvas, bytes.len());
-    if let Verdict::Faulty(r) = s {
-        return Drawn::Refused(r);
+    match begin(canvas, bytes.len(), Verdict::Sound, color) {
+        Start::Refused(r) => Drawn::Refused(r),
+        Start::With(ink) => {
+            let p = lift(x);
+            let q = lift(y);
+            let t = outline_in(canvas, bytes, p, q, w, h, ink, clip, Tally { landed: 0 });
+            Drawn::Done(t)
+        }
     }
-    let ink = words::plot_ink(canvas.format, canvas.xor, color);
-    let p = lift(x);
-    let q = lift(y);
-    let t = outline_in(canvas, bytes, p, q, w, h, ink, clip, Tally { landed: 0 });
-    Drawn::Done(t)
 }

@@ -4,22 +4,24 @@ ghost use mathlib.Core.Bool.{cond};
 ghost use Prim.Native.Nat.{_+_, _-_, _*_, _≤_, _<_};
 ghost use lib.ListN.{length};
 ghost use Rattle.words.specs.Format.{formatOf, rgb8};
-ghost use Rattle.canvas.specs.Faults.{Sized};
-ghost use Rattle.canvas.specs.Plot.{paint};
+ghost use Rattle.pixels.specs.Bytes.{Sized};
+ghost use Rattle.pixels.specs.Hits.{paint};
 ghost use Rattle.canvas.specs.Call.{leaves};
 ghost use Rattle.canvas.specs.Areas.{copyArea};
-ghost use Rattle.canvas.specs.Walk.{run, marks, field, SeenAs, shifted, Sourced};
-use crate::Canvas;
+ghost use Rattle.pixels.specs.Rows.{run, marks, field};
+ghost use Rattle.canvas.specs.Walk.{SeenAs, shifted, Sourced};
 use crate::Clip;
 use crate::Drawn;
 use crate::Tally;
-use crate::chunks::fewer;
-use crate::chunks::lay;
-use crate::chunks::take;
 use crate::faults::Verdict;
-use crate::span::Span;
+use crate::faults::judge;
+use crate::span::fewer;
 use crate::span::lift;
 use crate::span::shown_in;
+use pixels::Canvas;
+use pixels::chunks::lay;
+use pixels::chunks::take;
+use pixels::rows::Span;
 
 fn either(t: bool, a: usize, b: usize) -> usize
     ensures { λ r. ⌜ r ≡ cond t a b ⌝ }
@@ -142,16 +144,17 @@ pub fn copy_area(
 ) -> Drawn
     ensures { λ r. ⌜ leaves r (now (bytes .exit)) ≡ copyArea canvas dx dy sx sy w h clip (now (bytes .entry)) ⌝ }
 {
-    let s = crate::faults::judge(canvas, bytes.len());
-    if let Verdict::Faulty(r) = s {
-        return Drawn::Refused(r);
+    match judge(canvas, bytes.len()) {
+        Verdict::Faulty(r) => Drawn::Refused(r),
+        Verdict::Sound => {
+            let p = lift(dx);
+            let q = lift(dy);
+            let u = lift(sx);
+            let v = lift(sy);
+            let xs = shown_in(p, u, w, canvas.width, clip.x, clip.width, canvas.width);
+            let ys = shown_in(q, v, h, canvas.height, clip.y, clip.height, canvas.height);
+            let n = copy_in(canvas, bytes, xs, ys, p, q, u, v);
+            Drawn::Done(Tally { landed: n })
+        }
     }
-    let p = lift(dx);
-    let q = lift(dy);
-    let u = lift(sx);
-    let v = lift(sy);
-    let xs = shown_in(p, u, w, canvas.width, clip.x, clip.width, canvas.width);
-    let ys = shown_in(q, v, h, canvas.height, clip.y, clip.height, canvas.height);
-    let n = copy_in(canvas, bytes, xs, ys, p, q, u, v);
-    Drawn::Done(Tally { landed: n })
 }

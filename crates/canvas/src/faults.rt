@@ -1,13 +1,26 @@
 // Which canvases, angles and boxes are refused: one fault a function, the lowest number first.
 ghost use mathlib.Core.Path.{_≡_};
 ghost use Prim.Native.Nat.{_≤_};
-ghost use Rattle.canvas.specs.Faults.{formatFault, sizeFault, lengthFault, verdict, outside, angleFault, shapeFault, arcFault};
-use crate::Canvas;
+ghost use Rattle.canvas.specs.Faults.{formatFault, sizeFault, lengthFault, orElse, verdict, outside, angleFault, shapeFault, arcFault};
+ghost use Rattle.canvas.specs.Start.{started};
 use crate::Refusal;
+use pixels::Canvas;
+use words::Color;
+use words::Ink;
 
 pub(crate) enum Verdict {
     Sound,
     Faulty(Refusal),
+}
+
+// The first of two faults.
+pub(crate) fn or_else(f: Verdict, d: Verdict) -> Verdict
+    ensures { λ r. ⌜ r ≡ orElse f d ⌝ }
+{
+    match f {
+        Verdict::Sound => d,
+        Verdict::Faulty(r) => Verdict::Faulty(r),
+    }
 }
 
 fn format_fault(canvas: Canvas) -> Verdict
@@ -35,8 +48,7 @@ fn length_fault(canvas: Canvas, len: usize) -> Verdict
     requires { ⌜ (canvas .width ≤ 32767) × (canvas .height ≤ 32767) ⌝ }
     ensures { λ r. ⌜ r ≡ lengthFault canvas len ⌝ }
 {
-    let n = crate::bytes::extent_of(canvas);
-    if len == n {
+    if pixels::bytes::is_whole(canvas, len) {
         return Verdict::Sound;
     }
     Verdict::Faulty(Refusal::Length)
@@ -101,9 +113,21 @@ pub(crate) fn shape_fault(x: i32, y: i32, w: u32, h: u32) -> Verdict
 pub(crate) fn arc_fault(x: i32, y: i32, w: u32, h: u32, start: i32, arc: i32) -> Verdict
     ensures { λ r. ⌜ r ≡ arcFault x y w h start arc ⌝ }
 {
-    let a = angle_fault(start, arc);
-    let Verdict::Sound = a else {
-        return a;
-    };
-    shape_fault(x, y, w, h)
+    or_else(angle_fault(start, arc), shape_fault(x, y, w, h))
+}
+
+// How a call of one colour starts: refused, or with the ink of its plots.
+pub(crate) enum Start {
+    Refused(Refusal),
+    With(Ink),
+}
+
+// The first fault, the canvas's before the call's own, or the ink of the colour.
+pub(crate) fn begin(canvas: Canvas, len: usize, own: Verdict, color: Color) -> Start
+    ensures { λ r. ⌜ r ≡ started (orElse (verdict canvas len) own) canvas color ⌝ }
+{
+    match or_else(judge(canvas, len), own) {
+        Verdict::Faulty(r) => Start::Refused(r),
+        Verdict::Sound => Start::With(words::plot_ink(canvas.format, canvas.xor, color)),
+    }
 }

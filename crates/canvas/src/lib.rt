@@ -6,8 +6,6 @@ ghost use Rattle.canvas.specs.Call.{statusOf, countOf};
 
 mod areas;
 mod boxes;
-mod bytes;
-mod chunks;
 mod copy;
 mod faults;
 mod lines;
@@ -16,7 +14,6 @@ mod ovals;
 mod pictures;
 mod plot;
 mod rounds;
-mod rows;
 mod span;
 mod strokes;
 
@@ -33,14 +30,6 @@ pub use plot::put_pixel;
 pub use rounds::draw_round_rect;
 pub use strokes::draw_arc;
 use words::Color;
-
-// A canvas is a format number, width, height and XOR switch; its bytes are lent beside it.
-pub struct Canvas {
-    pub format: u32,
-    pub width: u32,
-    pub height: u32,
-    pub xor: bool,
-}
 
 pub struct Clip {
     pub x: i32,

@@ -3,22 +3,23 @@ ghost use mathlib.Core.Path.{_≡_};
 ghost use mathlib.Core.Bool.{false};
 ghost use Prim.Native.Nat.{_≤_, _<_};
 ghost use Rattle.words.specs.Ink.{inked};
-ghost use Rattle.canvas.specs.Bytes.{size};
-ghost use Rattle.canvas.specs.Faults.{Sized};
+ghost use Rattle.pixels.specs.Bytes.{size, Sized};
 ghost use Rattle.canvas.specs.Plot.{inks};
 ghost use Rattle.canvas.specs.Lines.{bresenham, line};
 ghost use Rattle.canvas.specs.Call.{drawLine, leaves, call};
 ghost use Rattle.canvas.specs.Walk.{work, dabs, Did, Fields};
 ghost use Rattle.canvas.specs.Trail.{apart, wayOf, penOf, toward, across, along, next, ahead, trail, Goes, Steps, Sets};
-use crate::Canvas;
 use crate::Clip;
 use crate::Drawn;
 use crate::Tally;
+use crate::faults::Start;
 use crate::faults::Verdict;
+use crate::faults::begin;
 use crate::plot::dab;
-use crate::span::Span;
 use crate::span::lift;
 use crate::span::window;
+use pixels::Canvas;
+use pixels::rows::Span;
 use segments::Clipped;
 use segments::Segment;
 use words::Color;
@@ -212,21 +213,18 @@ pub fn draw_line(
 ) -> Drawn
     ensures { λ r. ⌜ leaves r (now (bytes .exit)) ≡ call canvas (drawLine x1 y1 x2 y2 color clip) (now (bytes .entry)) ⌝ }
 {
-    let s = crate::faults::judge(canvas, bytes.len());
-    if let Verdict::Faulty(r) = s {
-        return Drawn::Refused(r);
+    match begin(canvas, bytes.len(), Verdict::Sound, color) {
+        Start::Refused(r) => Drawn::Refused(r),
+        Start::With(ink) => Drawn::Done(line_in(
+            canvas,
+            bytes,
+            x1,
+            y1,
+            x2,
+            y2,
+            ink,
+            clip,
+            Tally { landed: 0 },
+        )),
     }
-    let ink = words::plot_ink(canvas.format, canvas.xor, color);
-    let t = line_in(
-        canvas,
-        bytes,
-        x1,
-        y1,
-        x2,
-        y2,
-        ink,
-        clip,
-        Tally { landed: 0 },
-    );
-    Drawn::Done(t)
 }

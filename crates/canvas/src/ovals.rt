@@ -1,32 +1,41 @@
 // Filled pies and round rectangles: in each row of the box, the runs of pixels that the region takes.
 ghost use mathlib.Core.Path.{_≡_};
+ghost use mathlib.Core.Bool.{_||_};
 ghost use Prim.Native.Nat.{_-_, _≤_, _<_};
+ghost use lib.Dec.{eqb};
 ghost use lib.IntN.{pos, _+ℤ_};
 ghost use Rattle.words.specs.Ink.{inked};
+ghost use Rattle.curves.specs.declared.regions.Region.the-variants.{Rounded};
 ghost use Rattle.curves.specs.Corners.{radiusOf, cornersOf};
 ghost use Rattle.curves.specs.Regions.{takes, Asked};
-ghost use Rattle.canvas.specs.Faults.{Sized, Shaped};
+ghost use Rattle.pixels.specs.Bytes.{Sized};
+ghost use Rattle.canvas.specs.Faults.{Shaped};
 ghost use Rattle.canvas.specs.Plot.{inks};
 ghost use Rattle.canvas.specs.Boxes.{side};
 ghost use Rattle.canvas.specs.Curves.{sieve, pie, roundFill};
 ghost use Rattle.canvas.specs.Call.{fillArc, fillRoundRect, leaves, call};
-ghost use Rattle.canvas.specs.Walk.{lowered, run, work, Fits, Ready, Did};
+ghost use Rattle.canvas.specs.Walk.{lowered, work, Fits, Ready, Did};
+ghost use Rattle.pixels.specs.Rows.{run};
 ghost use Rattle.canvas.specs.Sift.{sifts, sifted, land, AskedAt, AskedIn};
-use crate::Canvas;
 use crate::Clip;
 use crate::Drawn;
 use crate::Tally;
 use crate::boxes::fill_in;
-use crate::faults::Verdict;
+use crate::boxes::is_empty;
+use crate::faults::Start;
+use crate::faults::arc_fault;
+use crate::faults::begin;
+use crate::faults::shape_fault;
 use crate::plot::landed_more;
-use crate::rows::ink_row;
-use crate::span::Span;
 use crate::span::cut;
 use crate::span::lift;
 use crate::span::reach;
 use curves::corners::Corners;
 use curves::regions::Region;
 use curves::regions::next;
+use pixels::Canvas;
+use pixels::rows::Span;
+use pixels::rows::ink_row;
 use words::Color;
 use words::Ink;
 
@@ -105,7 +114,7 @@ fn sift_in(
     sift_box(canvas, b, table, s, xs, ys, ink, t)
 }
 
-// The plots of a filled pie.
+// The plots of a filled pie. A box without columns or rows has none.
 fn pie_in(
     canvas: Canvas,
     b: &mut [u8],
@@ -122,12 +131,6 @@ fn pie_in(
     requires { ⌜ (Ready canvas clip (inks (inked ink) (pie canvas x y w h start arc)) (work (now b) t)) × (Shaped x y w h) ⌝ }
     ensures { λ r. ⌜ Did canvas clip (inks (inked ink) (pie canvas x y w h start arc)) (work (now (b .entry)) t) (work (now (b .exit)) r) ⌝ }
 {
-    if w == 0 {
-        return t;
-    }
-    if h == 0 {
-        return t;
-    }
     let table = angle::nodes::table();
     let s = Region::Sector(curves::pies::pie_in(x, y, w, h, start, arc));
     let p = lift(x);
@@ -150,29 +153,27 @@ pub fn fill_arc(
 ) -> Drawn
     ensures { λ r. ⌜ leaves r (now (bytes .exit)) ≡ call canvas (fillArc x y w h start arc color clip) (now (bytes .entry)) ⌝ }
 {
-    let s = crate::faults::judge(canvas, bytes.len());
-    if let Verdict::Faulty(r) = s {
-        return Drawn::Refused(r);
-    }
-    let o = crate::faults::arc_fault(x, y, w, h, start, arc);
-    if let Verdict::Faulty(r) = o {
-        return Drawn::Refused(r);
-    }
-    let ink = words::plot_ink(canvas.format, canvas.xor, color);
-    let t = pie_in(
+    match begin(
         canvas,
-        bytes,
-        x,
-        y,
-        w,
-        h,
-        start,
-        arc,
-        ink,
-        clip,
-        Tally { landed: 0 },
-    );
-    Drawn::Done(t)
+        bytes.len(),
+        arc_fault(x, y, w, h, start, arc),
+        color,
+    ) {
+        Start::Refused(r) => Drawn::Refused(r),
+        Start::With(ink) => Drawn::Done(pie_in(
+            canvas,
+            bytes,
+            x,
+            y,
+            w,
+            h,
+            start,
+            arc,
+            ink,
+            clip,
+            Tally { landed: 0 },
+        )),
+    }
 }
 
 // The corners of a box with these arc sizes.
@@ -185,6 +186,37 @@ pub(crate) fn corners_of(x: i32, y: i32, w: u32, h: u32, aw: u32, ah: u32) -> Co
     let rx = curves::corners::radius(aw, w);
     let ry = curves::corners::radius(ah, h);
     curves::corners::corners_in(x, y, right, bottom, rx, ry)
+}
+
+// The plots of what round corners leave of a box with a lifted corner. The test of a pixel needs no table there.
+fn sift_round(
+    canvas: Canvas,
+    b: &mut [u8],
+    c: Corners,
+    p: u64,
+    q: u64,
+    w: u32,
+    h: u32,
+    ink: Ink,
+    clip: Clip,
+    t: Tally,
+) -> Tally
+    requires { ⌜ (Ready canvas clip (inks (inked ink) (sieve (takes (Rounded c)) (side (lowered p) w (canvas .width)) (side (lowered q) h (canvas .height)))) (work (now b) t)) × ((p < 17179869184) × (q < 17179869184)) ⌝ }
+    ensures { λ r. ⌜ Did canvas clip (inks (inked ink) (sieve (takes (Rounded c)) (side (lowered p) w (canvas .width)) (side (lowered q) h (canvas .height)))) (work (now (b .entry)) t) (work (now (b .exit)) r) ⌝ }
+{
+    let s = Region::Rounded(c);
+    let table = [0usize; 513];
+    sift_in(canvas, b, &table, s, p, q, w, h, ink, clip, t)
+}
+
+// Whether a round rectangle is drawn as a plain one: a side or an arc size is 0.
+pub(crate) fn is_plain(w: u32, h: u32, aw: u32, ah: u32) -> bool
+    ensures { λ r. ⌜ r ≡ ((eqb w 0 || eqb h 0) || (eqb aw 0 || eqb ah 0)) ⌝ }
+{
+    if is_empty(w, h) {
+        return true;
+    }
+    is_empty(aw, ah)
 }
 
 // The plots of a filled round rectangle; where an arc size is 0, of a plain one.
@@ -204,23 +236,13 @@ fn round_in(
     requires { ⌜ (Ready canvas clip (inks (inked ink) (roundFill canvas x y w h aw ah)) (work (now b) t)) × (Shaped x y w h) ⌝ }
     ensures { λ r. ⌜ Did canvas clip (inks (inked ink) (roundFill canvas x y w h aw ah)) (work (now (b .entry)) t) (work (now (b .exit)) r) ⌝ }
 {
-    if w == 0 {
-        return t;
-    }
-    if h == 0 {
-        return t;
-    }
     let p = lift(x);
     let q = lift(y);
-    if aw == 0 {
+    if is_plain(w, h, aw, ah) {
         return fill_in(canvas, b, p, q, w, h, ink, clip, t);
     }
-    if ah == 0 {
-        return fill_in(canvas, b, p, q, w, h, ink, clip, t);
-    }
-    let s = Region::Rounded(corners_of(x, y, w, h, aw, ah));
-    let table = [0usize; 513];
-    sift_in(canvas, b, &table, s, p, q, w, h, ink, clip, t)
+    let c = corners_of(x, y, w, h, aw, ah);
+    sift_round(canvas, b, c, p, q, w, h, ink, clip, t)
 }
 
 // A filled round rectangle.
@@ -238,27 +260,20 @@ pub fn fill_round_rect(
 ) -> Drawn
     ensures { λ r. ⌜ leaves r (now (bytes .exit)) ≡ call canvas (fillRoundRect x y w h aw ah color clip) (now (bytes .entry)) ⌝ }
 {
-    let s = crate::faults::judge(canvas, bytes.len());
-    if let Verdict::Faulty(r) = s {
-        return Drawn::Refused(r);
+    match begin(canvas, bytes.len(), shape_fault(x, y, w, h), color) {
+        Start::Refused(r) => Drawn::Refused(r),
+        Start::With(ink) => Drawn::Done(round_in(
+            canvas,
+            bytes,
+            x,
+            y,
+            w,
+            h,
+            aw,
+            ah,
+            ink,
+            clip,
+            Tally { landed: 0 },
+        )),
     }
-    let o = crate::faults::shape_fault(x, y, w, h);
-    if let Verdict::Faulty(r) = o {
-        return Drawn::Refused(r);
-    }
-    let ink = words::plot_ink(canvas.format, canvas.xor, color);
-    let t = round_in(
-        canvas,
-        bytes,
-        x,
-        y,
-        w,
-        h,
-        aw,
-        ah,
-        ink,
-        clip,
-        Tally { landed: 0 },
-    );
-    Drawn::Done(t)
 }

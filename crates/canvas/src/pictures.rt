@@ -3,24 +3,27 @@ ghost use mathlib.Core.Path.{_≡_};
 ghost use Prim.Native.Nat.{_+_, _-_, _*_, _≤_, _<_};
 ghost use lib.ListN.{length};
 ghost use Rattle.blending.specs.Loops.{blended};
-ghost use Rattle.canvas.specs.Bytes.{form};
-ghost use Rattle.canvas.specs.Faults.{Sized, verdict, asSource};
-ghost use Rattle.canvas.specs.Plot.{paint};
+ghost use Rattle.pixels.specs.Bytes.{form, Sized};
+ghost use Rattle.canvas.specs.Faults.{verdict, asSource};
+ghost use Rattle.pixels.specs.Hits.{paint};
 ghost use Rattle.canvas.specs.Call.{leaves, call};
 ghost use Rattle.canvas.specs.Call.{draw as drawCall};
-ghost use Rattle.canvas.specs.Walk.{run, marks, field, overlaid, Sourced, Solid};
-use crate::Canvas;
+ghost use Rattle.pixels.specs.Rows.{run, marks, field};
+ghost use Rattle.canvas.specs.Walk.{overlaid, Sourced, Solid};
 use crate::Clip;
 use crate::Drawn;
 use crate::Refusal;
 use crate::Tally;
-use crate::chunks::fewer;
-use crate::chunks::lay;
-use crate::chunks::take;
 use crate::faults::Verdict;
-use crate::span::Span;
+use crate::faults::judge;
+use crate::faults::or_else;
+use crate::span::fewer;
 use crate::span::lift;
 use crate::span::shown_in;
+use pixels::Canvas;
+use pixels::chunks::lay;
+use pixels::chunks::take;
+use pixels::rows::Span;
 
 // What drawing colours leaves of words. Those of an image that keeps no alpha are stored.
 fn compose(canvas: Canvas, source: Canvas, cs: &[u32], ws: &mut [u32])
@@ -166,7 +169,7 @@ fn draw_in(
 fn judge_source(source: Canvas, len: usize) -> Verdict
     ensures { λ r. ⌜ r ≡ asSource (verdict source len) ⌝ }
 {
-    let s = crate::faults::judge(source, len);
+    let s = judge(source, len);
     match s {
         Verdict::Sound => Verdict::Sound,
         Verdict::Faulty(_) => Verdict::Faulty(Refusal::Source),
@@ -189,20 +192,20 @@ pub fn draw(
 ) -> Drawn
     ensures { λ r. ⌜ leaves r (now (bytes .exit)) ≡ call canvas (drawCall dx dy w h source (now (image .entry)) sx sy clip) (now (bytes .entry)) ⌝ }
 {
-    let s = crate::faults::judge(canvas, bytes.len());
-    if let Verdict::Faulty(r) = s {
-        return Drawn::Refused(r);
+    match or_else(
+        judge(canvas, bytes.len()),
+        judge_source(source, image.len()),
+    ) {
+        Verdict::Faulty(r) => Drawn::Refused(r),
+        Verdict::Sound => {
+            let p = lift(dx);
+            let q = lift(dy);
+            let u = lift(sx);
+            let v = lift(sy);
+            let xs = shown_in(p, u, w, source.width, clip.x, clip.width, canvas.width);
+            let ys = shown_in(q, v, h, source.height, clip.y, clip.height, canvas.height);
+            let n = draw_in(canvas, bytes, xs, ys, source, image, p, q, u, v);
+            Drawn::Done(Tally { landed: n })
+        }
     }
-    let o = judge_source(source, image.len());
-    if let Verdict::Faulty(r) = o {
-        return Drawn::Refused(r);
-    }
-    let p = lift(dx);
-    let q = lift(dy);
-    let u = lift(sx);
-    let v = lift(sy);
-    let xs = shown_in(p, u, w, source.width, clip.x, clip.width, canvas.width);
-    let ys = shown_in(q, v, h, source.height, clip.y, clip.height, canvas.height);
-    let n = draw_in(canvas, bytes, xs, ys, source, image, p, q, u, v);
-    Drawn::Done(Tally { landed: n })
 }

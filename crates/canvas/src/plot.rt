@@ -3,17 +3,20 @@ ghost use mathlib.Core.Path.{_≡_};
 ghost use mathlib.Core.List.{[], _∷_};
 ghost use Prim.Native.Nat.{_≤_};
 ghost use Rattle.words.specs.Ink.{inked};
-ghost use Rattle.canvas.specs.Plot.{at, plot};
+ghost use Rattle.canvas.specs.Plot.{at, plot, onCanvas};
 ghost use Rattle.canvas.specs.Call.{putPixel, leaves, call};
-ghost use Rattle.canvas.specs.Bytes.{size};
-ghost use Rattle.canvas.specs.Faults.{Sized};
+ghost use Rattle.pixels.specs.Bytes.{size, Sized};
 ghost use Rattle.canvas.specs.Walk.{lowered, plus, work, covers, dabbed, Fields, Fits, Ready, Did};
-use crate::Canvas;
 use crate::Clip;
 use crate::Drawn;
 use crate::Tally;
+use crate::faults::Start;
 use crate::faults::Verdict;
-use crate::span::Span;
+use crate::faults::begin;
+use crate::span::lift;
+use crate::span::on_side;
+use pixels::Canvas;
+use pixels::rows::Span;
 use words::Color;
 use words::Ink;
 
@@ -39,7 +42,7 @@ fn is_covered(s: Span, p: u64) -> bool
 }
 
 // A plot at a lifted point that can land on some columns and rows alone. The bytes of a word, n, are a literal in each
-// caller, and the choice by them falls away.
+// caller, and the choice by them falls away where the compiler takes the caller's loop into its arms.
 pub(crate) fn dab(
     canvas: Canvas,
     b: &mut [u8],
@@ -62,8 +65,18 @@ pub(crate) fn dab(
     }
     let x = (p - 2147483648) as usize;
     let y = (q - 2147483648) as usize;
-    crate::bytes::touch_by(canvas, b, n, x, y, ink);
+    pixels::bytes::touch_by(canvas, b, n, x, y, ink);
     landed_more(t, 1)
+}
+
+// Whether a lifted point is on the canvas.
+pub(crate) fn on_canvas(canvas: Canvas, p: u64, q: u64) -> bool
+    ensures { λ r. ⌜ r ≡ onCanvas canvas (lowered p) (lowered q) ⌝ }
+{
+    if on_side(p, canvas.width) {
+        return on_side(q, canvas.height);
+    }
+    false
 }
 
 // A plot at a lifted point.
@@ -79,26 +92,15 @@ pub(crate) fn plot_at(
     requires { ⌜ Ready canvas clip (plot (inked ink) (lowered p) (lowered q) ∷ []) (work (now b) t) ⌝ }
     ensures { λ r. ⌜ Did canvas clip (plot (inked ink) (lowered p) (lowered q) ∷ []) (work (now (b .entry)) t) (work (now (b .exit)) r) ⌝ }
 {
-    if p < 2147483648 {
+    if !on_canvas(canvas, p, q) {
         return t;
     }
-    if q < 2147483648 {
-        return t;
-    }
-    let px = p - 2147483648;
-    let py = q - 2147483648;
-    if canvas.width as u64 <= px {
-        return t;
-    }
-    if canvas.height as u64 <= py {
-        return t;
-    }
-    let x = px as usize;
-    let y = py as usize;
+    let x = (p - 2147483648) as usize;
+    let y = (q - 2147483648) as usize;
     if !crate::span::in_clip(clip, x, y) {
         return t;
     }
-    crate::bytes::touch_at(canvas, b, x, y, ink);
+    pixels::bytes::touch_at(canvas, b, x, y, ink);
     landed_more(t, 1)
 }
 
@@ -113,13 +115,13 @@ pub fn put_pixel(
 ) -> Drawn
     ensures { λ r. ⌜ leaves r (now (bytes .exit)) ≡ call canvas (putPixel x y color clip) (now (bytes .entry)) ⌝ }
 {
-    let s = crate::faults::judge(canvas, bytes.len());
-    if let Verdict::Faulty(r) = s {
-        return Drawn::Refused(r);
+    match begin(canvas, bytes.len(), Verdict::Sound, color) {
+        Start::Refused(r) => Drawn::Refused(r),
+        Start::With(ink) => {
+            let p = lift(x);
+            let q = lift(y);
+            let t = plot_at(canvas, bytes, p, q, ink, clip, Tally { landed: 0 });
+            Drawn::Done(t)
+        }
     }
-    let ink = words::plot_ink(canvas.format, canvas.xor, color);
-    let p = crate::span::lift(x);
-    let q = crate::span::lift(y);
-    let t = plot_at(canvas, bytes, p, q, ink, clip, Tally { landed: 0 });
-    Drawn::Done(t)
 }

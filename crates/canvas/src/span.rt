@@ -3,8 +3,9 @@ ghost use mathlib.Core.Path.{_≡_};
 ghost use Prim.Native.Nat.{_+_, _-_, _≤_, _<_, min, max};
 ghost use lib.IntN.{pos};
 ghost use Rattle.canvas.specs.Clip.{within, inClip, larger, shared};
-ghost use Rattle.canvas.specs.Walk.{lifted, Cut, Shown};
+ghost use Rattle.canvas.specs.Walk.{lifted, lowered, Cut, Shown};
 use crate::Clip;
+use pixels::rows::Span;
 
 // A signed number as one that is not negative, 2^31 above it.
 pub(crate) fn lift(x: i32) -> u64
@@ -65,10 +66,14 @@ pub(crate) fn in_clip(clip: Clip, x: usize, y: usize) -> bool
     false
 }
 
-// Columns or rows of the canvas, from one up to but not including another.
-pub(crate) struct Span {
-    pub(crate) from: usize,
-    pub(crate) to: usize,
+// Whether a lifted number is on a side of n pixels.
+pub(crate) fn on_side(p: u64, n: u32) -> bool
+    ensures { λ r. ⌜ r ≡ within (pos 0) n (lowered p) ⌝ }
+{
+    if p < 2147483648 {
+        return false;
+    }
+    p - 2147483648 < n as u64
 }
 
 // The span of len from u, as it is seen from z: what lies before z is cut off.
@@ -158,4 +163,14 @@ pub(crate) fn shared_by(a: i32, m: u32, b: i32, n: u32) -> u32
         return 0;
     }
     (end - start) as u32
+}
+
+// The smaller of two numbers of pixels.
+pub(crate) fn fewer(a: usize, b: usize) -> usize
+    ensures { λ r. ⌜ r ≡ min a b ⌝ }
+{
+    if a < b {
+        return a;
+    }
+    b
 }

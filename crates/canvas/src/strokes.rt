@@ -1,26 +1,29 @@
 // Strokes: arcs, and the quarters of a round rectangle's corners.
 ghost use mathlib.Core.Path.{_≡_};
 ghost use Prim.Native.Nat.{suc, _≤_, _<_};
+ghost use Rattle.number.specs.Degrees.{radiansOf};
 ghost use Rattle.words.specs.Ink.{inked};
-ghost use Rattle.canvas.specs.Bytes.{size};
-ghost use Rattle.canvas.specs.Faults.{Sized};
+ghost use Rattle.pixels.specs.Bytes.{size, Sized};
 ghost use Rattle.canvas.specs.Plot.{inks};
-ghost use Rattle.canvas.specs.Strokes.{pointOf, strokeFrom, stroke, arc, quarters};
+ghost use Rattle.canvas.specs.Strokes.{pointOf, strokeFrom, stroke, arc};
 ghost use Rattle.canvas.specs.Call.{drawArc, leaves, call};
-ghost use Rattle.canvas.specs.Walk.{plus, work, dabbed, dabs, Fits, Did, Fields};
-use crate::Canvas;
+ghost use Rattle.canvas.specs.Walk.{plus, work, dabbed, dabs, half, Fits, Did, Fields};
 use crate::Clip;
 use crate::Drawn;
 use crate::Tally;
-use crate::faults::Verdict;
+use crate::boxes::is_empty;
+use crate::faults::Start;
+use crate::faults::arc_fault;
+use crate::faults::begin;
 use crate::plot::dab;
-use crate::span::Span;
 use crate::span::lift;
 use crate::span::window;
 use curves::corners::Corners;
 use curves::corners::corner;
 use curves::ovals::Oval;
 use curves::strokes::Spot;
+use pixels::Canvas;
+use pixels::rows::Span;
 use words::Color;
 use words::Ink;
 
@@ -116,10 +119,7 @@ fn arc_in(
     requires { ⌜ (Sized canvas (now b)) × (t .landed < 9223372036854775808) ⌝ }
     ensures { λ r. ⌜ Did canvas clip (inks (inked ink) (arc canvas x y w h start sweep)) (work (now (b .entry)) t) (work (now (b .exit)) r) ⌝ }
 {
-    if w == 0 {
-        return t;
-    }
-    if h == 0 {
+    if is_empty(w, h) {
         return t;
     }
     let o = curves::ovals::oval_in(x, y, w, h);
@@ -143,85 +143,50 @@ pub fn draw_arc(
 ) -> Drawn
     ensures { λ r. ⌜ leaves r (now (bytes .exit)) ≡ call canvas (drawArc x y w h start arc color clip) (now (bytes .entry)) ⌝ }
 {
-    let s = crate::faults::judge(canvas, bytes.len());
-    if let Verdict::Faulty(r) = s {
-        return Drawn::Refused(r);
-    }
-    let o = crate::faults::arc_fault(x, y, w, h, start, arc);
-    if let Verdict::Faulty(r) = o {
-        return Drawn::Refused(r);
-    }
-    let ink = words::plot_ink(canvas.format, canvas.xor, color);
-    let t = arc_in(
+    match begin(
         canvas,
-        bytes,
-        x,
-        y,
-        w,
-        h,
-        start,
-        arc,
-        ink,
-        clip,
-        Tally { landed: 0 },
-    );
-    Drawn::Done(t)
+        bytes.len(),
+        arc_fault(x, y, w, h, start, arc),
+        color,
+    ) {
+        Start::Refused(r) => Drawn::Refused(r),
+        Start::With(ink) => Drawn::Done(arc_in(
+            canvas,
+            bytes,
+            x,
+            y,
+            w,
+            h,
+            start,
+            arc,
+            ink,
+            clip,
+            Tally { landed: 0 },
+        )),
+    }
 }
 
-// The plots of the quarters at the corners of a round rectangle.
-pub(crate) fn quarters_in(
+// The plots of the two upper quarters at the corners of a round rectangle, or of the two lower ones, each from its angle in
+// degrees.
+pub(crate) fn half_in(
     canvas: Canvas,
     b: &mut [u8],
     c: Corners,
+    low: bool,
+    first: f32,
+    second: f32,
     ink: Ink,
     clip: Clip,
     t: Tally,
 ) -> Tally
     requires { ⌜ (Sized canvas (now b)) × (t .landed < 4611686018427387904) ⌝ }
-    ensures { λ r. ⌜ Did canvas clip (inks (inked ink) (quarters canvas c)) (work (now (b .entry)) t) (work (now (b .exit)) r) ⌝ }
+    ensures { λ r. ⌜ Did canvas clip (inks (inked ink) (half canvas c low (radiansOf first) (radiansOf second))) (work (now (b .entry)) t) (work (now (b .exit)) r) ⌝ }
 {
     let quarter = number::radians(90.0);
-    let first = number::radians(0.0);
-    let half = number::radians(180.0);
-    let last = number::radians(270.0);
-    let t1 = stroke_in(
-        canvas,
-        b,
-        corner(c, true, false),
-        first,
-        quarter,
-        ink,
-        clip,
-        t,
-    );
-    let t2 = stroke_in(
-        canvas,
-        b,
-        corner(c, false, false),
-        quarter,
-        quarter,
-        ink,
-        clip,
-        t1,
-    );
-    let t3 = stroke_in(
-        canvas,
-        b,
-        corner(c, false, true),
-        half,
-        quarter,
-        ink,
-        clip,
-        t2,
-    );
-    stroke_in(
-        canvas,
-        b,
-        corner(c, true, true),
-        last,
-        quarter,
-        ink,
-        clip,
-        t3,
-    )
+    let from = number::radians(first);
+    let then = number::radians(second);
+    let o = corner(c, !low, low);
+    let u = corner(c, low, low);
+    let n = stroke_in(canvas, b, o, from, quarter, ink, clip, t);
+    stroke_in(canvas, b, u, then, quarter, ink, clip, n)
 }

@@ -1,22 +1,26 @@
 -- The bytes that a canvas has fit the room exactly where its area is at most the room divided by a pixel's size.
-use mathlib.Core.List.{List, [], _∷_, _++_}
+use mathlib.Core.Bool.{true, false, not, _||_}
+use mathlib.Core.Logic.{_⊎_, inl, inr}
+use mathlib.Core.List.{List, _++_}
 use mathlib.Core.Path.{_≡_, refl, sym, _∙_, ap}
 use Prim.Native.Nat.{ℕ, zero, suc, _+_, _*_, _/_, _-_, _^_, _<_, _≤_}
-use native.Mathlib.Decide.{decLe}
+use native.Mathlib.Decide.{decLe, ℕ-discrete}
 use native.Mathlib.Nat.{div-lt-iff-lt-mul, le-div-iff-mul-le, mul-le-mul, lt-of-not-le}
 use native.Mathlib.Omega.{arith}
 use lib.ListN.{length, take, drop, length-append}
+use lib.Dec.{ltb, eqb}
 use lib.Seq.{length-take-le}
-use borrow.Author.Tests.{le-leb, lt-leb, eq-eqb, ne-eqb}
-use Rattle.cases.specs.Line.{Left, words, lost, Value, value, none, got, wordsOf}
+use borrow.Author.Tests.{le-leb, lt-leb, eq-eqb, ne-eqb, ltb-true, ltb-false, eqb-true, eqb-false, not-true, not-false}
+use Rattle.cases.specs.Line.{Value, value, none, wordsOf}
 use Rattle.cases.specs.Number.{nameOf}
-use Rattle.cases.specs.Place.{leftAt, sown, pairs, readArgs, readName, kindsIn}
+use Rattle.cases.specs.Place.{leftAt, pairs, readArgs, readName, kindsIn}
 use Rattle.cases.specs.Row.{Args, head, rowOf, argsOf}
-use Rattle.cases.specs.Seed.{firstBytes}
+use Rattle.cases.specs.Seed.{Sown, firstBytes}
 use Rattle.words.specs.Format.{formatOf, bytesPerPixel}
 use Rattle.cases.specs.Case.{exactly, fitting, capped, whole, Outcome, noCase, laid, lentAt, called, known, caseOf}
 use Rattle.cases.specs.declared.number.Name.{Name}
 use Rattle.cases.specs.declared.row.Args.{Args as Taken}
+use Rattle.cases.proofs.Either.{either, neither}
 use Rattle.cases.proofs.Reading.{inside, finished, gone}
 use Rattle.cases.proofs.Rows.{head-kinds, no-kinds, some-kinds}
 
@@ -65,53 +69,48 @@ not-whole-by line i a b n (no m) = let l : length line < i = lt-of-not-le m in r
 not-whole : {A : Type 0} (line : List ℕ) (i : ℕ) (a b : A) → (i ≡ length line + 1 → ⊥) → whole (leftAt line i) a b ≡ b
 not-whole line i a b n = not-whole-by line i a b n (decLe i (length line))
 
-same-either : {A : Type 0} (l : Left) (a : A) → whole l a a ≡ a
-unfolding whole
-same-either (words []) a = refl
-same-either (words (w ∷ ws)) a = refl
-same-either lost a = refl
+-- The first bytes of a seed before the bytes that stay.
+pub laid-start : (g : Sown) (n : ℕ) (bytes : List ℕ) {t : List ℕ} → n ≤ length bytes → t ≡ firstBytes g (length (take n bytes))
+    → t ++ drop n bytes ≡ firstBytes g n ++ drop n bytes
+laid-start g n bytes l p = rw (p, length-take-le n bytes l)
 
-module _ (line : List ℕ) (op : ℕ) (h r : Args) (i : ℕ) (bytes image : List ℕ) where
+pub room : (k l n m : ℕ) → (ltb k n || ltb l m) ≡ false → (n ≤ k) × (m ≤ l)
+room k l n m t = let o = neither (ltb k n) (ltb l m) t in (ltb-false k n (o .0), ltb-false l m (o .1))
+
+-- Both are laid out, or neither is.
+module _ (op : ℕ) (h r : Args) (bytes image : List ℕ) (n m : ℕ) (e : fitting (length bytes) n ≡ lentAt (length bytes) 0 h)
+    (f : fitting (length image) m ≡ lentAt (length image) 4 r) where
   abbrev bad : Outcome
   bad = (noCase, bytes, image)
 
-  bad-row : (i ≡ length line + 1 → ⊥) → bad ≡ called op h (got r (leftAt line i)) bytes image
-  unfolding called
-  bad-row n = sym (not-whole line i _ bad n)
+  abbrev both : Value ℕ → Value ℕ → Outcome
+  both v w = laid op h r v w bytes image
 
-  without : Value ℕ → Value ℕ → Outcome
-  without n m = whole (leftAt line i) (laid op h r n m bytes image) bad
+  second-none : (v : Value ℕ) → bad ≡ both v none
+  unfolding laid
+  second-none (value k) = refl
+  second-none none = refl
 
-  first-none : (m : Value ℕ) → bad ≡ without none m
-  unfolding laid without
-  first-none m = sym (same-either (leftAt line i) bad)
+  first-none : (w : Value ℕ) → bad ≡ both none w
+  unfolding laid
+  first-none w = refl
 
-  second-none : (n : Value ℕ) → bad ≡ without n none
-  unfolding laid without
-  second-none (value n) = sym (same-either (leftAt line i) bad)
-  second-none none = sym (same-either (leftAt line i) bad)
+  short-by : (ltb (length bytes) n ≡ true) ⊎ (ltb (length image) m ≡ true) → bad ≡ both (lentAt (length bytes) 0 h) (lentAt (length image) 4 r)
+  short-by (inl t) =
+      first-none (lentAt (length image) 4 r) ∙
+      ap (λ (v : Value ℕ). both v (lentAt (length image) 4 r)) (sym (over (length bytes) n (ltb-true (length bytes) n t)) ∙ e)
+  short-by (inr t) =
+      second-none (lentAt (length bytes) 0 h) ∙
+      ap (λ (w : Value ℕ). both (lentAt (length bytes) 0 h) w) (sym (over (length image) m (ltb-true (length image) m t)) ∙ f)
 
-  bad-room : (n : ℕ) → fitting (length bytes) n ≡ lentAt (length bytes) 0 h → length bytes < n
-      → bad ≡ called op h (got r (leftAt line i)) bytes image
-  unfolding called without
-  bad-room n e l =
-      let m = lentAt (length image) 4 r in
-      first-none m ∙ ap (λ (x : Value ℕ). without x m) (sym (over (length bytes) n l) ∙ e)
+  pub no-room : (ltb (length bytes) n || ltb (length image) m) ≡ true → bad ≡ both (lentAt (length bytes) 0 h) (lentAt (length image) 4 r)
+  no-room t = short-by (either (ltb (length bytes) n) (ltb (length image) m) t)
 
-  bad-image : (m : ℕ) → fitting (length image) m ≡ lentAt (length image) 4 r → length image < m
-      → bad ≡ called op h (got r (leftAt line i)) bytes image
-  unfolding called without
-  bad-image m e l = second-none _ ∙ ap (without _) (sym (over (length image) m l) ∙ e)
-
-  good : (n m : ℕ) {t u : List ℕ} → fitting (length bytes) n ≡ lentAt (length bytes) 0 h → n ≤ length bytes
-      → fitting (length image) m ≡ lentAt (length image) 4 r → m ≤ length image → i ≡ length line + 1
-      → t ≡ firstBytes (h .seed) (length (take n bytes)) → u ≡ firstBytes (r .seed) (length (take m image))
-      → (record { name = op; head = h .numbers; args = r .numbers; bytes = n; image = m }, t ++ drop n bytes, u ++ drop m image)
-      ≡ called op h (got r (leftAt line i)) bytes image
-  unfolding called laid fitting
-  good n m e l f k w p q =
-      rw (p, q, length-take-le n bytes l, length-take-le m image k)
-      (sym (is-whole line i _ bad w ∙ rw (← e, ← f, le-leb n (length bytes) l, le-leb m (length image) k)))
+  pub laid-both : {t u : List ℕ} → (n ≤ length bytes) × (m ≤ length image) → t ≡ firstBytes (h .seed) n ++ drop n bytes → u ≡ firstBytes (r .seed) m ++ drop m image
+      → (record { name = op; head = h .numbers; args = r .numbers; bytes = n; image = m }, t, u)
+      ≡ both (lentAt (length bytes) 0 h) (lentAt (length image) 4 r)
+  unfolding laid fitting
+  laid-both l p q = rw (p, q) (sym (rw (← e, ← f, le-leb n (length bytes) (l .0), le-leb m (length image) (l .1))))
 
 -- The head, the name and the row one after the other are the case.
 module _ (line bytes image : List ℕ) (h : Taken) (o : Name) (k : ℕ) (e : readArgs line h ≡ argsOf (kindsIn 16 0xeeebd00000000000) (leftAt line 0))
@@ -123,7 +122,7 @@ module _ (line bytes image : List ℕ) (h : Taken) (o : Name) (k : ℕ) (e : rea
       let d : readArgs line h ≡ argsOf head (leftAt line 0) = e ∙ ap (λ (ks : List ℕ). argsOf ks (leftAt line 0)) head-kinds in
       rw (← inside line 0 (omega arith), ← d, ← f, ← g)
 
-  pub no-op : k ≡ 0 → (noCase, bytes, image) ≡ caseOf line bytes image
+  no-op : k ≡ 0 → (noCase, bytes, image) ≡ caseOf line bytes image
   unfolding known kindsIn
   no-op z =
       ap (λ (ks : List ℕ). known ks (called (o .letters) (readArgs line h .value) (argsOf ks (leftAt line (o .next))) bytes image) (noCase, bytes, image))
@@ -134,21 +133,29 @@ module _ (line bytes image : List ℕ) (h : Taken) (o : Name) (k : ℕ) (e : rea
     row-is : called (o .letters) (readArgs line h .value) (readArgs line r) bytes image ≡ caseOf line bytes image
     row-is = rw i (sym (some-kinds k n _ _) ∙ case-is)
 
-    pub no-row-ends : (r .next ≡ length line + 1 → ⊥) → (noCase, bytes, image) ≡ caseOf line bytes image
-    no-row-ends l = bad-row line (o .letters) (readArgs line h .value) (readArgs line r .value) (r .next) bytes image l ∙ row-is
+    no-row-ends : (r .next ≡ length line + 1 → ⊥) → (noCase, bytes, image) ≡ caseOf line bytes image
+    unfolding called
+    no-row-ends l = sym (not-whole line (r .next) _ (noCase, bytes, image) l) ∙ row-is
 
-    pub no-room : (n : ℕ) → fitting (length bytes) n ≡ lentAt (length bytes) 0 (readArgs line h .value) → length bytes < n
-        → (noCase, bytes, image) ≡ caseOf line bytes image
-    no-room n p l = bad-room line (o .letters) (readArgs line h .value) (readArgs line r .value) (r .next) bytes image n p l ∙ row-is
+    laid-out : {x : Outcome} → r .next ≡ length line + 1
+        → x ≡ laid (o .letters) (readArgs line h .value) (readArgs line r .value) (lentAt (length bytes) 0 (readArgs line h .value)) (lentAt (length image) 4 (readArgs line r .value)) bytes image
+        → x ≡ caseOf line bytes image
+    unfolding called
+    laid-out w p = p ∙ sym (is-whole line (r .next) _ (noCase, bytes, image) w) ∙ row-is
 
-    pub no-image-room : (m : ℕ) → fitting (length image) m ≡ lentAt (length image) 4 (readArgs line r .value) → length image < m
-        → (noCase, bytes, image) ≡ caseOf line bytes image
-    no-image-room m p l = bad-image line (o .letters) (readArgs line h .value) (readArgs line r .value) (r .next) bytes image m p l ∙ row-is
+  -- A line with no op, or with more or fewer words than its op has.
+  module _ (r : Taken) (i : readArgs line r ≡ argsOf (kindsIn 16 k) (leftAt line (o .next))) where
+    bad-by : (eqb k 0 ≡ true) ⊎ (not (eqb (r .next) (length line + 1)) ≡ true) → Dec (k ≡ 0) → (noCase, bytes, image) ≡ caseOf line bytes image
+    bad-by t (yes z) = no-op z
+    bad-by (inl t) (no n) = no-op (eqb-true k 0 t)
+    bad-by (inr t) (no n) = no-row-ends n r i (eqb-false (r .next) (length line + 1) (not-true (eqb (r .next) (length line + 1)) t))
 
-    pub laid-out : (n m : ℕ) {t u : List ℕ} → fitting (length bytes) n ≡ lentAt (length bytes) 0 (readArgs line h .value) → n ≤ length bytes
-        → fitting (length image) m ≡ lentAt (length image) 4 (readArgs line r .value) → m ≤ length image → r .next ≡ length line + 1
-        → t ≡ firstBytes (sown line (h .seed)) (length (take n bytes)) → u ≡ firstBytes (sown line (r .seed)) (length (take m image))
-        → (record { name = o .letters; head = h .numbers; args = r .numbers; bytes = n; image = m }, t ++ drop n bytes, u ++ drop m image)
-        ≡ caseOf line bytes image
-    laid-out n m p l q y w a b =
-        good line (o .letters) (readArgs line h .value) (readArgs line r .value) (r .next) bytes image n m p l q y w a b ∙ row-is
+    pub bad-line : (eqb k 0 || not (eqb (r .next) (length line + 1))) ≡ true → (noCase, bytes, image) ≡ caseOf line bytes image
+    bad-line t = bad-by (either (eqb k 0) (not (eqb (r .next) (length line + 1))) t) (ℕ-discrete k 0)
+
+    pub good-line : {x : Outcome} → (eqb k 0 || not (eqb (r .next) (length line + 1))) ≡ false
+        → x ≡ laid (o .letters) (readArgs line h .value) (readArgs line r .value) (lentAt (length bytes) 0 (readArgs line h .value)) (lentAt (length image) 4 (readArgs line r .value)) bytes image
+        → x ≡ caseOf line bytes image
+    good-line t p =
+        let q = neither (eqb k 0) (not (eqb (r .next) (length line + 1))) t in
+        laid-out (eqb-false k 0 (q .0)) r i (eqb-true (r .next) (length line + 1) (not-false (eqb (r .next) (length line + 1)) (q .1))) p

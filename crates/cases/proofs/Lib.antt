@@ -1,5 +1,6 @@
 pub mod Cases
 pub mod Determined
+pub mod Either
 pub mod Fills
 pub mod Hashes
 pub mod Numbers

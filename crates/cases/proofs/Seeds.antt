@@ -1,17 +1,23 @@
 -- Hex digits are read two by two: the bytes so far stand before those to come.
+use mathlib.Core.Bool.{true, false, _||_}
+use mathlib.Core.Logic.{_⊎_, inl, inr}
 use mathlib.Core.List.{List, [], _∷_, _++_, append-assoc, append-nil}
 use mathlib.Core.Path.{_≡_, refl, sym, _∙_, ap}
 use Prim.Native.Nat.{ℕ, zero, suc, _+_, _*_, _<_, _≤_}
 use native.Mathlib.Numerals.{add-one}
+use native.Mathlib.Decide.{decLe}
+use native.Mathlib.Nat.{lt-of-not-le}
 use native.Mathlib.Omega.{arith}
+use lib.Dec.{ltb}
 use lib.ListN.{length, getD, replicate}
-use borrow.Author.Tests.{lt-ltb, le-ltb, eq-eqb, ne-eqb, eqb-false}
+use borrow.Author.Tests.{lt-ltb, le-ltb, eq-eqb, ne-eqb, ltb-true, ltb-false, eqb-false}
 use Rattle.cases.specs.Line.{Left, words, lost, Value, value, none, Got, got, after, next}
 use Rattle.cases.specs.Place.{leftAt, pairs, Within, Fills}
 use Rattle.cases.specs.Seed.{Sown, zeros, counted, given, nibble, byte, before, hexes, givenBy, givenHex, countedBy, sowing, seedOf, filled, fileOf, turns}
 use Rattle.cases.specs.Number.{natural, numberOf, nameOf}
 use Rattle.cases.specs.declared.seed.Seed.{Seed}
 use Rattle.cases.specs.declared.seed.Seed.the-variants.{Bytes}
+use Rattle.cases.proofs.Either.{either, neither}
 use Rattle.cases.proofs.Reading.{letter, alike, refused, barred, short, empty, matched}
 
 -- What is still to be read after the first bytes.
@@ -54,10 +60,10 @@ module _ (p line : List ℕ) (i : ℕ) (h : i < length line) (s : getD line i 0 
   no-high g [] = refl
   no-high g (b ∷ w) = rw (le-ltb (nibble (getD line i 0)) 16 g)
 
-  pub high : 16 ≤ nibble (getD line i 0) → next (counted 0) (rest p) (leftAt line i) ≡ got (counted 0) lost
+  high : 16 ≤ nibble (getD line i 0) → next (counted 0) (rest p) (leftAt line i) ≡ got (counted 0) lost
   high g = into ∙ refused (counted 0) (λ (w : List ℕ). rest p (getD line i 0 ∷ w)) (no-high g) (leftAt line (i + 1))
 
-  pub low : nibble (getD line i 0) < 16 → i + 1 < length line → 16 ≤ nibble (getD line (i + 1) 0)
+  low : nibble (getD line i 0) < 16 → i + 1 < length line → 16 ≤ nibble (getD line (i + 1) 0)
       → next (counted 0) (rest p) (leftAt line i) ≡ got (counted 0) lost
   unfolding hexes before givenBy
   low a m b =
@@ -80,6 +86,17 @@ module _ (p line : List ℕ) (i : ℕ) (h : i < length line) (s : getD line i 0 
       letter (counted 0) (λ (w : List ℕ). rest p (getD line i 0 ∷ w)) line (i + 1) m (no-space (getD line (i + 1) 0) b) ∙
       alike (counted 0) (λ (w : List ℕ). rest p (getD line i 0 ∷ getD line (i + 1) 0 ∷ w))
       (rest (p ++ (byte (getD line i 0) (getD line (i + 1) 0) ∷ []))) (both a b) (leftAt line (i + 1 + 1))
+
+-- Two letters are hex digits, or one of them is none.
+module _ (line : List ℕ) (i x y : ℕ) (h : i < length line) (s : getD line i 0 ≡ 32 → ⊥) (m : i + 1 < length line) (a : x ≡ nibble (getD line i 0))
+    (b : y ≡ nibble (getD line (i + 1) 0)) where
+  unpaired-by : (p : List ℕ) → (ltb 15 x ≡ true) ⊎ (ltb 15 y ≡ true) → Dec (x ≤ 15) → next (counted 0) (rest p) (leftAt line i) ≡ got (counted 0) lost
+  unpaired-by p t (no n) = let l : 15 < x = lt-of-not-le n in high p line i h s (omega (arith, a, l))
+  unpaired-by p (inl t) (yes l) = high p line i h s (omega (arith, a, ltb-true 15 x t))
+  unpaired-by p (inr t) (yes l) = low p line i h s (omega (arith, a, l)) m (omega (arith, b, ltb-true 15 y t))
+
+  pub unpaired : (p : List ℕ) → (ltb 15 x || ltb 15 y) ≡ true → next (counted 0) (rest p) (leftAt line i) ≡ got (counted 0) lost
+  unpaired p t = unpaired-by p (either (ltb 15 x) (ltb 15 y) t) (decLe x 15)
 
 -- An x, and then hex.
 pub marked : (line : List ℕ) (i : ℕ) → i < length line → getD line i 0 ≡ 120
@@ -157,7 +174,7 @@ module _ {seed : Seed} {from n : ℕ} (e : seed ≡ Bytes from n) where
   fills k f = rw e at f
 
 -- Two digits are a byte more.
-pub onward : (line : List ℕ) (at n i : ℕ) → i ≡ at + 2 * n → i < length line → (getD line i 0 ≡ 32 → ⊥) → nibble (getD line i 0) < 16
+onward : (line : List ℕ) (at n i : ℕ) → i ≡ at + 2 * n → i < length line → (getD line i 0 ≡ 32 → ⊥) → nibble (getD line i 0) < 16
     → i + 1 < length line → nibble (getD line (i + 1) 0) < 16
     → next (counted 0) (rest (pairs line at n)) (leftAt line i) ≡ next (counted 0) (rest (pairs line at (n + 1))) (leftAt line (i + 2))
 onward line at n i e h s a m b =
@@ -165,6 +182,13 @@ onward line at n i e h s a m b =
     pair (pairs line at n) line i h s a m b ∙
     ap (λ (p : List ℕ). next (counted 0) (rest p) (leftAt line (i + 1 + 1))) (sym (pairs-more line at n i e)) ∙
     ap (λ (k : ℕ). next (counted 0) (rest (pairs line at (n + 1))) (leftAt line k)) j
+
+pub paired : (line : List ℕ) (at n i x y : ℕ) → i ≡ at + 2 * n → i < length line → (getD line i 0 ≡ 32 → ⊥) → i + 1 < length line
+    → x ≡ nibble (getD line i 0) → y ≡ nibble (getD line (i + 1) 0) → (ltb 15 x || ltb 15 y) ≡ false
+    → next (counted 0) (rest (pairs line at n)) (leftAt line i) ≡ next (counted 0) (rest (pairs line at (n + 1))) (leftAt line (i + 2))
+paired line at n i x y e h s m a b t =
+    let o = neither (ltb 15 x) (ltb 15 y) t in
+    onward line at n i e h s (omega (arith, a, ltb-false 15 x (o .0))) m (omega (arith, b, ltb-false 15 y (o .1)))
 
 pub no-letter : (line : List ℕ) (i : ℕ) → length line ≤ i → next (counted 0) filled (leftAt line i) ≡ got (counted 0) lost
 unfolding filled

@@ -1,12 +1,12 @@
 -- Texts put one behind the other are one text put once.
-use mathlib.Core.List.{List, [], _∷_, _++_}
+use mathlib.Core.List.{List, [], _∷_, _++_, append-assoc}
 use mathlib.Core.Path.{_≡_, refl, sym, _∙_, ap}
 use Prim.Native.Nat.{ℕ, zero, suc, _+_, _-_, _/_, _%_, _<_, _≤_}
 use native.Mathlib.Omega.{arith}
-use lib.ListN.{length, take, getD, set, length-append, length-set}
-use lib.Seq.{set-comm, take-suc, length-take-le}
+use lib.ListN.{length, set, length-append, length-set}
+use lib.Seq.{set-comm}
 use native.Mathlib.Nat.{zero-add}
-use native.Mathlib.Numerals.{add-one, one-add}
+use native.Mathlib.Numerals.{one-add}
 use lib.Dec.{ltb, lit≤}
 use mathlib.Core.Bool.{Bool, true, false, cond}
 use borrow.Author.Tests.{lt-ltb, le-ltb, ltb-false}
@@ -42,12 +42,10 @@ byte-before d at (a ∷ s) v j e =
     ap (λ (x : List ℕ). placed x (at + 1) s) (set-comm d j at v a (λ (z : j ≡ at). omega arith)) ∙
     byte-before (set d at a) (at + 1) s v j (omega arith)
 
-pub letter-behind : (d : List ℕ) (at : ℕ) (t : List ℕ) (i : ℕ) → i < length t
-    → set (placed d at (take i t)) (at + i) (getD t i 0) ≡ placed d at (take (i + 1) t)
+-- One byte more.
+pub wrote-byte : (b : ℕ) (d : List ℕ) (at : ℕ) → Wrote (b ∷ []) d at (set d at b) (at + 1)
 unfolding placed
-letter-behind d at t i h =
-    placed-placed d at (take i t) (getD t i 0 ∷ []) (at + i) (omega (arith, length-take-le i t (omega arith))) ∙
-    ap (placed d at) (sym (ap (λ (k : ℕ). take k t) (add-one i) ∙ take-suc t i 0 h))
+wrote-byte b d at = record { same = refl; to = refl }
 
 pub length-spelled : (base k n : ℕ) → length (spelled base k n) ≡ k
 unfolding spelled
@@ -84,11 +82,29 @@ module _ (base k n : ℕ) where
   unfolding places
   place-end h = let z : 20 - k ≡ 0 = omega arith in rw z
 
-pub answered-is : (a : Answer) (d d' : List ℕ) (r : ℕ) → 144 ≤ length d → Wrote (lineOf a) d 0 d' r → (r, d') ≡ answered a d
+-- The code holds labels as numbers, spelled as the line has them.
+status-label : spelled 256 8 0x207374617475733d ≡ 32 ∷ 115 ∷ 116 ∷ 97 ∷ 116 ∷ 117 ∷ 115 ∷ 61 ∷ []
+unfolding spelled glyph
+status-label = refl
+
+hash-label : spelled 256 6 0x20686173683d ≡ 32 ∷ 104 ∷ 97 ∷ 115 ∷ 104 ∷ 61 ∷ []
+unfolding spelled glyph
+hash-label = refl
+
+answered-is : (a : Answer) (d d' : List ℕ) (r : ℕ) → 144 ≤ length d → Wrote (lineOf a) d 0 d' r → (r, d') ≡ answered a d
 unfolding answered
 answered-is a d d' r h w =
     let z : r ≡ length (lineOf a) = w .to ∙ zero-add (length (lineOf a)) in
     let e : d' ≡ placed d 0 (lineOf a) = w .same in rw (le-ltb (length d) 144 h, z, e)
+
+pub written : (a : Answer) (d d' : List ℕ) (r : ℕ) → 144 ≤ length d
+    → Wrote
+    (((number 256 (a .name) ++ (spelled 256 8 0x207374617475733d ++ number 10 (a .status))) ++ foundText (a .found))
+    ++ ((spelled 256 6 0x20686173683d ++ spelled 16 16 (a .hash)) ++ (10 ∷ []))) d 0 d' r
+    → (r, d') ≡ answered a d
+unfolding lineOf statusText
+written a d d' r h w =
+    answered-is a d d' r h (simp append-assoc (simp append-assoc at (rw (status-label, hash-label) at w)))
 
 -- No line is longer than 144 bytes.
 places-most : (base k n : ℕ) → places base k n ≤ k + 1

@@ -1,10 +1,11 @@
 // The line that answers a case.
 ghost use mathlib.Core.Path.{_≡_};
 ghost use Prim.Native.Nat.{_≤_, _<_, _+_};
-ghost use mathlib.Core.List.{_++_};
+ghost use mathlib.Core.List.{[], _∷_, _++_};
 ghost use lib.ListN.{length};
 ghost use Rattle.cases.specs.Answer.{spelled, number, foundText, answered};
 ghost use Rattle.cases.specs.Place.{Wrote};
+ghost use Rattle.cases.specs.declared.answer.Found.the-variants.{Image};
 ghost use Rattle.cases.specs.Answer.{glyph as glyphOf, places as placesOf};
 
 // What a call found: how many plots landed, a colour, nothing, or an image's sides and how many of its pixels are clear.
@@ -23,18 +24,22 @@ pub struct Answer {
     pub hash: u64,
 }
 
-// Puts text at a place of out, and answers the place after it.
-fn put_text(out: &mut [u8], at: usize, t: &[u8]) -> usize
-    requires { ⌜ at + length (now t) ≤ length (now out) ⌝ }
-    ensures { λ r. ⌜ Wrote (now (t .entry)) (now (out .entry)) at (now (out .exit)) r ⌝ }
-{
-    let mut i = 0;
-    while i < t.len() {
-        out[at + i] = t[i];
-        i += 1;
-    }
-    at + i
-}
+// The labels: their letters, a space first, one behind the other as the digits of base 256.
+const STATUS: u64 = 0x207374617475733d;
+
+const COUNT: u64 = 0x20636f756e743d;
+
+const ARGB: u64 = 0x20617267623d;
+
+const NONE: u64 = 0x206e6f6e65;
+
+const WIDTH: u64 = 0x20773d;
+
+const HEIGHT: u64 = 0x20683d;
+
+const CLEAR: u64 = 0x20636c6561723d;
+
+const HASH: u64 = 0x20686173683d;
 
 // Ten digits, six letters, and above them each byte for itself.
 fn glyph(d: u64) -> u8
@@ -84,16 +89,36 @@ fn places(base: u64, n: u64) -> usize
     k
 }
 
-// Puts a label and a number.
-fn put_field(out: &mut [u8], at: usize, label: &[u8], base: u64, n: u64) -> usize
+// Puts a number.
+fn put_number(out: &mut [u8], at: usize, base: u64, n: u64) -> usize
     requires { ⌜ (1 < base) × (base ≤ 256) ⌝ }
-    requires { ⌜ at + length (now label) + 20 ≤ length (now out) ⌝ }
-    ensures { λ r. ⌜ Wrote (now (label .entry) ++ number base n) (now (out .entry)) at (now (out .exit)) r ⌝ }
-    ensures { λ r. ⌜ r ≤ at + length (now (label .entry)) + 20 ⌝ }
+    requires { ⌜ at + 20 ≤ length (now out) ⌝ }
+    ensures { λ r. ⌜ Wrote (number base n) (now (out .entry)) at (now (out .exit)) r ⌝ }
+    ensures { λ r. ⌜ r ≤ at + 20 ⌝ }
 {
-    let from = put_text(out, at, label);
     let k = places(base, n);
-    put_digits(out, from, base, k, n)
+    put_digits(out, at, base, k, n)
+}
+
+// Puts a label of k letters and a number.
+fn put_field(out: &mut [u8], at: usize, k: usize, label: u64, n: u64) -> usize
+    requires { ⌜ at + k + 20 ≤ length (now out) ⌝ }
+    ensures { λ r. ⌜ Wrote (spelled 256 k label ++ number 10 n) (now (out .entry)) at (now (out .exit)) r ⌝ }
+    ensures { λ r. ⌜ r ≤ at + k + 20 ⌝ }
+{
+    let from = put_digits(out, at, 256, k, label);
+    put_number(out, from, 10, n)
+}
+
+// Puts an image's sides and how many of its pixels are clear.
+fn put_image(out: &mut [u8], at: usize, w: u32, h: u32, clear: u64) -> usize
+    requires { ⌜ at + 73 ≤ length (now out) ⌝ }
+    ensures { λ r. ⌜ Wrote (foundText (Image w h clear)) (now (out .entry)) at (now (out .exit)) r ⌝ }
+    ensures { λ r. ⌜ r ≤ at + 73 ⌝ }
+{
+    let a = put_field(out, at, 3, WIDTH, w as u64);
+    let b = put_field(out, a, 3, HEIGHT, h as u64);
+    put_field(out, b, 7, CLEAR, clear)
 }
 
 fn put_found(out: &mut [u8], at: usize, f: Found) -> usize
@@ -102,15 +127,22 @@ fn put_found(out: &mut [u8], at: usize, f: Found) -> usize
     ensures { λ r. ⌜ r ≤ at + 73 ⌝ }
 {
     match f {
-        Found::Count(n) => put_field(out, at, b" count=", 10, n),
-        Found::Argb(n) => put_field(out, at, b" argb=", 10, n as u64),
-        Found::Nothing => put_text(out, at, b" none"),
-        Found::Image { w, h, clear } => {
-            let a = put_field(out, at, b" w=", 10, w as u64);
-            let b = put_field(out, a, b" h=", 10, h as u64);
-            put_field(out, b, b" clear=", 10, clear)
-        }
+        Found::Count(n) => put_field(out, at, 7, COUNT, n),
+        Found::Argb(n) => put_field(out, at, 6, ARGB, n as u64),
+        Found::Nothing => put_digits(out, at, 256, 5, NONE),
+        Found::Image { w, h, clear } => put_image(out, at, w, h, clear),
     }
+}
+
+// Puts a hash and the line's end.
+fn put_hash(out: &mut [u8], at: usize, hash: u64) -> usize
+    requires { ⌜ at + 23 ≤ length (now out) ⌝ }
+    ensures { λ r. ⌜ Wrote (spelled 256 6 0x20686173683d ++ spelled 16 16 hash ++ (10 ∷ [])) (now (out .entry)) at (now (out .exit)) r ⌝ }
+{
+    let d = put_digits(out, at, 256, 6, HASH);
+    let e = put_digits(out, d, 16, 16, hash);
+    out[e] = 10;
+    e + 1
 }
 
 // Puts the line that answers at the start of out, and answers its length. With less than 144 bytes lent it does
@@ -122,10 +154,8 @@ pub fn write(answer: Answer, out: &mut [u8]) -> usize
         return 0;
     }
     let f = answer.found;
-    let a = put_field(out, 0, b"", 256, answer.name);
-    let b = put_field(out, a, b" status=", 10, answer.status as u64);
+    let a = put_number(out, 0, 256, answer.name);
+    let b = put_field(out, a, 8, STATUS, answer.status as u64);
     let c = put_found(out, b, f);
-    let d = put_text(out, c, b" hash=");
-    let e = put_digits(out, d, 16, 16, answer.hash);
-    put_text(out, e, b"\n")
+    put_hash(out, c, answer.hash)
 }

@@ -1,10 +1,14 @@
 // A line as a case.
 ghost use mathlib.Core.Path.{_≡_};
-ghost use Prim.Native.Nat.{_<_, _^_};
-ghost use Rattle.cases.specs.Place.{sown, Within, Fills};
-ghost use Rattle.cases.specs.Case.{exactly, fitting, capped, caseOf};
+ghost use Prim.Native.Nat.{_≤_, _<_, _^_};
+ghost use mathlib.Core.List.{_++_};
+ghost use lib.ListN.{length, drop};
+ghost use Rattle.cases.specs.Place.{sown, readArgs, Within, Fills};
+ghost use Rattle.cases.specs.Case.{exactly, fitting, capped, laid, lentAt, caseOf};
+ghost use Rattle.cases.specs.Seed.{firstBytes};
 ghost use Rattle.cases.specs.Case.{lent as lentTo};
 use crate::number::read_name;
+use crate::row::Args;
 use crate::row::kinds;
 use crate::row::read_args;
 use crate::seed::Seed;
@@ -58,6 +62,42 @@ fn lent(line: &[u8], format: u32, width: u32, height: u32, seed: Seed, room: usi
     }
 }
 
+// Puts the seed's first bytes at the start of bytes.
+fn lay(line: &[u8], seed: Seed, n: usize, bytes: &mut [u8])
+    requires { ⌜ Within (now line) seed ⌝ }
+    requires { ⌜ Fills seed n ⌝ }
+    requires { ⌜ n ≤ length (now bytes) ⌝ }
+    ensures { λ _. ⌜ now (bytes .exit) ≡ firstBytes (sown (now (line .entry)) seed) n ++ drop n (now (bytes .entry)) ⌝ }
+{
+    sow(line, seed, &mut bytes[..n])
+}
+
+// Lays the first bytes out, where there is room for both.
+fn lay_both(line: &[u8], name: u64, h: Args, c: Args, bytes: &mut [u8], image: &mut [u8]) -> Case
+    requires { ⌜ Within (now line) (h .seed) ⌝ }
+    requires { ⌜ Within (now line) (c .seed) ⌝ }
+    ensures { λ r. ⌜ (r, now (bytes .exit), now (image .exit)) ≡ laid name (readArgs (now (line .entry)) h .value) (readArgs (now (line .entry)) c .value) (lentAt (length (now (bytes .entry))) 0 (readArgs (now (line .entry)) h .value)) (lentAt (length (now (image .entry))) 4 (readArgs (now (line .entry)) c .value)) (now (bytes .entry)) (now (image .entry)) ⌝ }
+{
+    let head = h.numbers;
+    let seed = h.seed;
+    let n = lent(line, head[0], head[1], head[2], seed, bytes.len());
+    let args = c.numbers;
+    let beside = c.seed;
+    let m = lent(line, args[4], args[5], args[6], beside, image.len());
+    if (bytes.len() < n) | (image.len() < m) {
+        return BAD;
+    }
+    lay(line, seed, n, bytes);
+    lay(line, beside, m, image);
+    Case {
+        name,
+        head,
+        args,
+        bytes: n,
+        image: m,
+    }
+}
+
 // Reads a line: the numbers, the canvas's first bytes at the start of bytes, and those of the image or the file beside
 // it at the start of image. A case that needs more bytes than are lent is bad, and a bad line leaves both as they were.
 pub fn read(line: &[u8], bytes: &mut [u8], image: &mut [u8]) -> Case
@@ -66,32 +106,9 @@ pub fn read(line: &[u8], bytes: &mut [u8], image: &mut [u8]) -> Case
     let h = read_args(line, 0, 0xeeeb_d000_0000_0000);
     let name = read_name(line, h.next);
     let k = kinds(name.letters);
-    if k == 0 {
-        return BAD;
-    }
     let c = read_args(line, name.next, k);
-    if c.next != line.len() + 1 {
+    if (k == 0) | (c.next != line.len() + 1) {
         return BAD;
     }
-    let head = h.numbers;
-    let seed = h.seed;
-    let n = lent(line, head[0], head[1], head[2], seed, bytes.len());
-    if bytes.len() < n {
-        return BAD;
-    }
-    let args = c.numbers;
-    let beside = c.seed;
-    let m = lent(line, args[4], args[5], args[6], beside, image.len());
-    if image.len() < m {
-        return BAD;
-    }
-    sow(line, seed, &mut bytes[..n]);
-    sow(line, beside, &mut image[..m]);
-    Case {
-        name: name.letters,
-        head,
-        args,
-        bytes: n,
-        image: m,
-    }
+    lay_both(line, name.letters, h, c, bytes, image)
 }

@@ -63,25 +63,16 @@ fn digits(line: &[u8], at: usize, most: u32) -> Number
                 next: i + 1,
             };
         }
-        if b < 48 {
+        // b - 48 around 256: more than 9 for whatever is no digit.
+        let d = (b + 208) % 256;
+        let v = value * 10 + d;
+        if (9 < d) | (limit < v) {
             return Number {
                 value: 0,
                 next: line.len() + 2,
             };
         }
-        if 57 < b {
-            return Number {
-                value: 0,
-                next: line.len() + 2,
-            };
-        }
-        if limit < value * 10 + (b - 48) {
-            return Number {
-                value: 0,
-                next: line.len() + 2,
-            };
-        }
-        value = value * 10 + (b - 48);
+        value = v;
         i += 1;
     }
     Number {
@@ -145,10 +136,7 @@ pub(crate) fn read_name(line: &[u8], at: usize) -> Name
                 next: i + 1,
             };
         }
-        if b == 0 {
-            return lost;
-        }
-        if 281474976710655 < letters {
+        if (b == 0) | (281474976710655 < letters) {
             return lost;
         }
         letters = letters * 256 + b;

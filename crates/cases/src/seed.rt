@@ -97,13 +97,7 @@ fn read_hex(line: &[u8], at: usize) -> Seeded
                 next: line.len() + 2,
             };
         }
-        if 15 < nibble(line[i]) {
-            return Seeded {
-                seed: Seed::Number(0),
-                next: line.len() + 2,
-            };
-        }
-        if 15 < nibble(line[i + 1]) {
+        if (15 < nibble(line[i])) | (15 < nibble(line[i + 1])) {
             return Seeded {
                 seed: Seed::Number(0),
                 next: line.len() + 2,
@@ -176,7 +170,8 @@ fn decode(line: &[u8], from: usize, bytes: &mut [u8])
 {
     let mut i = 0;
     while i < bytes.len() {
-        bytes[i] = nibble(line[from + 2 * i]) % 16 * 16 + nibble(line[from + 2 * i + 1]) % 16;
+        let at = from + 2 * i;
+        bytes[i] = nibble(line[at]) % 16 * 16 + nibble(line[at + 1]) % 16;
         i += 1;
     }
 }

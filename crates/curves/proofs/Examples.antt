@@ -6,10 +6,10 @@ use Prim.Native.Nat.{ℕ}
 use lib.IntN.{pos}
 use lib.Ieee.{binary32, isNan, ofBits, ofInt, add, sub, mul, div, lt, le}
 use Rattle.number.specs.Degrees.{radiansOf}
-use Rattle.number.specs.Size.{absOf, maxOf}
+use Rattle.number.specs.Size.{plusZero, one, absOf, maxOf}
 use Rattle.number.specs.Whole.{roundSize, roundAs, ceilSize}
 use Rattle.curves.specs.Ovals.{halfAxis, centre, offset, ovalOf}
-use Rattle.curves.specs.Strokes.{strokeRadius, stepsOf}
+use Rattle.curves.specs.Strokes.{strokeRadius, stepsOf, spotOf}
 use Rattle.curves.specs.Pies.{sweepOf, inSweep, inPie}
 use Rattle.curves.specs.Corners.{radiusOf, insetOf, nearestCentre, inRound}
 
@@ -45,6 +45,11 @@ one-step = refl
 fourteen : stepsOf (ovalOf (pos 0) (pos 0) 1 1) (radiansOf (ofInt binary32 (pos 360))) 240 320 ≡ 14
 unfolding stepsOf strokeRadius ovalOf centre halfAxis radiansOf ceilSize maxOf isNan absOf ofBits ofInt add sub mul div lt
 fourteen = refl
+
+-- A quarter turn on, a stroke is at the top.
+top : spotOf (ovalOf (pos 0) (pos 0) 9 9) (record { sine = one; cosine = plusZero }) ≡ record { x = pos 4; y = pos 0 }
+unfolding spotOf ovalOf centre halfAxis roundAs roundSize ofInt add sub mul div lt
+top = refl
 
 -- A radius of a half is an inset of 1.
 inset-1 : insetOf (radiusOf 1 9) ≡ 1

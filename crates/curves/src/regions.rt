@@ -1,5 +1,4 @@
 // Regions that take some of their box's pixels, and where in a row the pixels taken begin and end.
-ghost use mathlib.Core.Path.{_≡_};
 ghost use Prim.Native.Nat.{_≤_};
 ghost use Rattle.curves.specs.Pies.{pieRowOf, inPieAt};
 ghost use Rattle.curves.specs.Corners.{cornerRowOf, inCornersAt};

@@ -1,8 +1,7 @@
 // Which files are refused: the tests in their order.
 ghost use mathlib.Core.Path.{_≡_};
 ghost use Prim.Native.Nat.{_*_, _≤_};
-ghost use Rattle.lbmp.specs.Faults.{shortFault, areaFault, twiceFault, kindFault, fieldFault, planesFault, bytesFault, headerVerdict, verdict};
-ghost use lib.ListN.{length};
+ghost use Rattle.lbmp.specs.Faults.{areaFault, twiceFault, kindFault, fieldFault, planesFault, bytesFault, headerVerdict, verdict};
 use crate::Refusal;
 use crate::header::Header;
 use crate::header::Kind;

@@ -4,4 +4,5 @@ pub mod Powers
 pub mod Negated
 pub mod Rounds
 pub mod Shown
+pub mod Examples
 pub mod Determined

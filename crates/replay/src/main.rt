@@ -1,11 +1,14 @@
 // Reads cases from standard input, one a line, and writes a line for each to standard output.
+ghost use mathlib.Core.Bool.{true};
 ghost use mathlib.Core.Path.{_≡_};
-ghost use Prim.Native.Nat.{_≤_};
+ghost use Prim.Native.Nat.{_≤_, _+_};
 ghost use lib.ListN.{length};
 
 mod calls;
 
 use calls::respond;
+use cases::Answer;
+use cases::Found;
 use libc::STDIN_FILENO;
 use libc::STDOUT_FILENO;
 
@@ -25,40 +28,83 @@ fn bad(out: &mut [u8]) -> usize
     4
 }
 
-// Answers a line at the start of out.
-fn answer(line: &[u8], bytes: &mut [u8], image: &mut [u8], out: &mut [u8]) -> usize
+// The smaller of two numbers.
+fn least(a: usize, b: usize) -> usize
+    ensures { λ r. ⌜ (r ≤ a) × (r ≤ b) ⌝ }
+{
+    if a < b {
+        return a;
+    }
+    b
+}
+
+// Whether a case of this name, on a line of this length, stands in what was read: its bytes and its image's are within
+// the room of each.
+fn sound(name: u64, line: usize, bytes: usize, room: usize, image: usize, beside: usize) -> bool
+    ensures { λ r. ⌜ (r ≡ true → (bytes ≤ room) × (image ≤ beside)) ⌝ }
+{
+    if name == 0 {
+        return false;
+    }
+    if LONGEST < line {
+        return false;
+    }
+    if room < bytes {
+        return false;
+    }
+    image <= beside
+}
+
+// What answers a bad line.
+const BAD: Answer = Answer {
+    name: 0,
+    status: 0,
+    found: Found::Nothing,
+    hash: 0,
+};
+
+// Answers a line.
+fn answer(line: &[u8], bytes: &mut [u8], image: &mut [u8]) -> Answer {
+    let c = cases::read(line, bytes, image);
+    let n = c.bytes;
+    let m = c.image;
+    if sound(c.name, line.len(), n, bytes.len(), m, image.len()) {
+        return respond(c, &mut bytes[..n], &image[..m]);
+    }
+    BAD
+}
+
+// Writes an answer at the start of out.
+fn write(a: Answer, out: &mut [u8]) -> usize
     ensures { λ r. ⌜ r ≤ length (now (out .entry)) ⌝ }
 {
-    if LONGEST < line.len() {
+    if a.name == 0 {
         return bad(out);
     }
-    let c = cases::read(line, bytes, image);
-    if c.name == 0 {
-        return bad(out);
-    }
-    let n = c.bytes;
-    if bytes.len() < n {
-        return bad(out);
-    }
-    let m = c.image;
-    if image.len() < m {
-        return bad(out);
-    }
-    let a = respond(c, &mut bytes[..n], &image[..m]);
     cases::write(a, out)
 }
 
-// Answers a line behind what out holds, which is written out first where little room is left.
-fn step(line: &[u8], bytes: &mut [u8], image: &mut [u8], out: &mut [u8], used: usize) -> usize
+// Where the next answer goes: behind what out holds, which is written out first where little room is left.
+fn place(out: &[u8], used: usize) -> usize
     requires { ⌜ used ≤ length (now out) ⌝ }
     ensures { λ r. ⌜ r ≤ length (now (out .entry)) ⌝ }
 {
     if used + 144 <= out.len() {
-        let n = answer(line, bytes, image, &mut out[used..]);
-        return used + n;
+        return used;
     }
     io::write_all(STDOUT_FILENO, &out[..used]);
-    answer(line, bytes, image, out)
+    0
+}
+
+// Answers a line behind what out holds.
+fn step(line: &[u8], bytes: &mut [u8], image: &mut [u8], out: &mut [u8], used: usize) -> usize
+    requires { ⌜ used ≤ length (now out) ⌝ }
+    ensures { λ r. ⌜ r ≤ length (now (out .entry)) ⌝ }
+{
+    let a = answer(line, bytes, image);
+    let at = place(out, used);
+    let n = write(a, &mut out[at..]);
+    at + n
 }
 
 // The index of the first line end at or after a place, or the text's length.
@@ -82,20 +128,12 @@ struct Done {
     used: usize,
 }
 
-// Answers each whole line of a text from a place on.
-fn lines(
-    text: &[u8],
-    bytes: &mut [u8],
-    image: &mut [u8],
-    out: &mut [u8],
-    from: usize,
-    used: usize,
-) -> Done
-    requires { ⌜ from ≤ length (now text) ⌝ }
+// Answers each whole line of a text.
+fn lines(text: &[u8], bytes: &mut [u8], image: &mut [u8], out: &mut [u8], used: usize) -> Done
     requires { ⌜ used ≤ length (now out) ⌝ }
     ensures { λ r. ⌜ (r .at ≤ length (now (text .entry))) × (r .used ≤ length (now (out .entry))) ⌝ }
 {
-    let mut at = from;
+    let mut at = 0;
     let mut u = used;
     let mut end = line_end(text, at);
     while end < text.len() {
@@ -106,61 +144,29 @@ fn lines(
     Done { at, used: u }
 }
 
-// Moves a part of the text to its start.
-fn shift(text: &mut [u8], from: usize, to: usize)
+// Moves a part of the text to its start, and gives its length. Of a line that is too long only as much is kept as
+// tells that it is.
+fn shift(text: &mut [u8], from: usize, to: usize) -> usize
     requires { ⌜ (from ≤ to) × (to ≤ length (now text)) ⌝ }
+    ensures { λ r. ⌜ r ≤ 65537 ⌝ }
 {
+    let n = least(to - from, LONGEST + 1);
     let mut i = 0;
-    while i < to - from {
+    while i < n {
         text[i] = text[from + i];
         i += 1;
     }
+    n
 }
 
-// What is carried from one read to the next: how much text is held, how much of out is used, whether the held line
-// has become too long and was let go, and whether there may be more to read.
+// What is carried from one read to the next: how much text is held, and how much of out is used.
 struct State {
     held: usize,
     used: usize,
-    long: bool,
-    more: bool,
 }
 
-// Answers the whole lines of the text up to an end, from a place on, and keeps what is behind them.
+// Answers the whole lines of the text up to an end, and keeps what is behind them.
 fn keep(
-    text: &mut [u8],
-    bytes: &mut [u8],
-    image: &mut [u8],
-    out: &mut [u8],
-    from: usize,
-    end: usize,
-    used: usize,
-) -> State
-    requires { ⌜ (from ≤ end) × (end ≤ length (now text)) ⌝ }
-    requires { ⌜ used ≤ length (now out) ⌝ }
-    ensures { λ r. ⌜ (r .held ≤ 65536) × (r .used ≤ length (now (out .entry))) ⌝ }
-{
-    let d = lines(&text[..end], bytes, image, out, from, used);
-    let at = d.at;
-    shift(text, at, end);
-    if LONGEST < end - at {
-        return State {
-            held: 0,
-            used: d.used,
-            long: true,
-            more: true,
-        };
-    }
-    State {
-        held: end - at,
-        used: d.used,
-        long: false,
-        more: true,
-    }
-}
-
-// The same where the first line is the rest of one that is too long: once it ends, it is answered as an empty one is.
-fn resume(
     text: &mut [u8],
     bytes: &mut [u8],
     image: &mut [u8],
@@ -170,62 +176,36 @@ fn resume(
 ) -> State
     requires { ⌜ end ≤ length (now text) ⌝ }
     requires { ⌜ used ≤ length (now out) ⌝ }
-    ensures { λ r. ⌜ (r .held ≤ 65536) × (r .used ≤ length (now (out .entry))) ⌝ }
+    ensures { λ r. ⌜ (r .held ≤ 65537) × (r .used ≤ length (now (out .entry))) ⌝ }
 {
-    let e = line_end(&text[..end], 0);
-    if end <= e {
-        return State {
-            held: 0,
-            used,
-            long: true,
-            more: true,
-        };
-    }
-    let u = step(&text[..0], bytes, image, out, used);
-    keep(text, bytes, image, out, e + 1, end, u)
+    let d = lines(&text[..end], bytes, image, out, used);
+    let held = shift(text, d.at, end);
+    State { held, used: d.used }
 }
 
-// Reads once and answers the whole lines.
-fn turn(s: State, text: &mut [u8], bytes: &mut [u8], image: &mut [u8], out: &mut [u8]) -> State
-    requires { ⌜ (s .held ≤ 65536) × (131072 ≤ length (now text)) ⌝ }
-    requires { ⌜ s .used ≤ length (now out) ⌝ }
-    ensures { λ r. ⌜ (r .held ≤ 65536) × (r .used ≤ length (now (out .entry))) ⌝ }
+// Reads once, behind what is held: how many bytes came, or 0 where nothing more comes.
+fn fetch(text: &mut [u8], held: usize) -> usize
+    requires { ⌜ held ≤ length (now text) ⌝ }
+    ensures { λ r. ⌜ held + r ≤ length (now (text .entry)) ⌝ }
 {
-    let held = s.held;
     let got = libc::read(STDIN_FILENO, &mut text[held..]);
-    if got <= 0 {
-        return State {
-            held,
-            used: s.used,
-            long: s.long,
-            more: false,
-        };
-    }
-    let n = io::count(got, &text[held..]);
-    if s.long {
-        return resume(text, bytes, image, out, held + n, s.used);
-    }
-    keep(text, bytes, image, out, 0, held + n, s.used)
+    io::count(got, &text[held..])
 }
 
 // Reads and answers until nothing more comes. A proved loop has to end, so it counts its turns down from a number
 // that no run uses up.
 fn turns(text: &mut [u8], bytes: &mut [u8], image: &mut [u8], out: &mut [u8]) -> State
     requires { ⌜ 131072 ≤ length (now text) ⌝ }
-    ensures { λ r. ⌜ (r .held ≤ 65536) × (r .used ≤ length (now (out .entry))) ⌝ }
+    ensures { λ r. ⌜ (r .held ≤ 65537) × (r .used ≤ length (now (out .entry))) ⌝ }
 {
-    let mut s = State {
-        held: 0,
-        used: 0,
-        long: false,
-        more: true,
-    };
+    let mut s = State { held: 0, used: 0 };
     let mut left = u64::MAX;
     while 0 < left {
-        if !s.more {
+        let n = fetch(text, s.held);
+        if n == 0 {
             return s;
         }
-        s = turn(s, text, bytes, image, out);
+        s = keep(text, bytes, image, out, s.held + n, s.used);
         left -= 1;
     }
     s
@@ -238,17 +218,14 @@ fn last(s: State, text: &[u8], bytes: &mut [u8], image: &mut [u8], out: &mut [u8
     ensures { λ r. ⌜ r ≤ length (now (out .entry)) ⌝ }
 {
     let held = s.held;
-    if s.long {
-        return step(&text[..0], bytes, image, out, s.used);
+    if held == 0 {
+        return s.used;
     }
-    if 0 < held {
-        return step(&text[..held], bytes, image, out, s.used);
-    }
-    s.used
+    step(&text[..held], bytes, image, out, s.used)
 }
 
 // Answers all of standard input.
-fn serve(text: &mut [u8], bytes: &mut [u8; 1048576], image: &mut [u8; 1048576], out: &mut [u8])
+fn serve(text: &mut [u8], bytes: &mut [u8], image: &mut [u8], out: &mut [u8])
     requires { ⌜ 131072 ≤ length (now text) ⌝ }
 {
     let s = turns(text, bytes, image, out);

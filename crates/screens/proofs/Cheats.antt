@@ -10,12 +10,14 @@ use Rattle.words.specs.declared.Color.{Color}
 use Rattle.words.specs.Format.{formatOf, bytesPerPixel}
 use Rattle.words.specs.Word.{color, fromColor}
 use Rattle.words.specs.Ink.{plotWord}
-use Rattle.canvas.specs.declared.Canvas.{Canvas}
-use Rattle.canvas.specs.Bytes.{get, put, load, store, cells, pixel, extent, loadAt, storeAt}
+use Rattle.pixels.specs.declared.Canvas.{Canvas}
+use Rattle.pixels.specs.Bytes.{get, put, load, store, cells, pixel, extent, loadAt, storeAt}
 use Rattle.canvas.specs.Clip.{within, inClip}
 use Rattle.canvas.specs.Faults.{formatFault, sizeFault, lengthFault, orElse, verdict}
-use Rattle.canvas.specs.Plot.{tint, dip, onCanvas, fate, hits, touch, paint}
-use Rattle.canvas.specs.Boxes.{select, each, fill}
+use Rattle.canvas.specs.Plot.{tint, dip, onCanvas, fate, hits}
+use Rattle.pixels.specs.Hits.{touch, paint}
+use Rattle.canvas.specs.Boxes.{select, fill}
+use Rattle.pixels.specs.Rows.{each}
 use Rattle.canvas.specs.Call.{Call, putPixel, fillRect, dots, drawing, call}
 use Rattle.canvas.specs.Calls.{after}
 use Rattle.screens.specs.Screens.{clip, small}

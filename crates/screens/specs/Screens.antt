@@ -9,7 +9,7 @@ use Rattle.words.specs.declared.Color.{Color}
 use Rattle.words.specs.Format.{Format, rgb332, rgb565, rgb8, argb, abgr}
 use Rattle.words.specs.Word.{color, fromColor, toColor}
 use Rattle.words.specs.Ink.{plotWord}
-use Rattle.canvas.specs.declared.Canvas.{Canvas}
+use Rattle.pixels.specs.declared.Canvas.{Canvas}
 use Rattle.canvas.specs.declared.Clip.{Clip}
 use Rattle.canvas.specs.Clip.{intersection}
 use Rattle.canvas.specs.Plot.{Point, at, hits}

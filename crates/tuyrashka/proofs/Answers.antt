@@ -9,7 +9,7 @@ use mir.ValLaws.{toZ-ofZ}
 use Rattle.words.specs.declared.Color.{Color}
 use Rattle.words.specs.Format.{formatOf}
 use Rattle.words.specs.Word.{toColor}
-use Rattle.canvas.specs.declared.Canvas.{Canvas}
+use Rattle.pixels.specs.declared.Canvas.{Canvas}
 use Rattle.canvas.specs.declared.Clip.{Clip}
 use Rattle.canvas.specs.declared.Drawn.{Drawn}
 use Rattle.canvas.specs.declared.Pixel.{Pixel}

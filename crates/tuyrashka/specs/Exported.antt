@@ -5,7 +5,7 @@ use lib.IntN.{ℤ}
 use Rattle.words.specs.declared.Color.{Color}
 use Rattle.words.specs.Format.{argb}
 use Rattle.words.specs.Word.{fromColor, toColor}
-use Rattle.canvas.specs.declared.Canvas.{Canvas}
+use Rattle.pixels.specs.declared.Canvas.{Canvas}
 use Rattle.canvas.specs.declared.Clip.{Clip}
 use Rattle.canvas.specs.Look.{Seen, nothing, seen, Reading}
 

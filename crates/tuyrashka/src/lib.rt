@@ -8,9 +8,9 @@ ghost use Rattle.tuyrashka.specs.Exported.{canvas, source, clip, colorOf
 mod bitmap;
 mod ovals;
 
-use canvas::Canvas;
 use canvas::Clip;
 use canvas::Pixel;
+use pixels::Canvas;
 
 #[no_mangle]
 pub extern "C" fn tuyrashka_put_pixel(

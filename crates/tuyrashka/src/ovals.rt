@@ -2,8 +2,8 @@
 ghost use mathlib.Core.Path.{_≡_};
 ghost use Rattle.canvas.specs.Call.{drawArc, fillArc, drawRoundRect, fillRoundRect, outcome, call};
 ghost use Rattle.tuyrashka.specs.Exported.{canvas, clip, colorOf};
-use canvas::Canvas;
 use canvas::Clip;
+use pixels::Canvas;
 
 #[no_mangle]
 pub extern "C" fn tuyrashka_draw_arc(

@@ -1,7 +1,7 @@
 -- Storing what was read gives the word again, and reading what was stored gives the colour where all its bits are kept: by arithmetic on the fields.
 use mathlib.Core.Path.{_≡_}
 use mathlib.Core.Bool.{true}
-use Prim.Native.Nat.{ℕ, _+_, _*_, _/_, _%_, _<_}
+use Prim.Native.Nat.{ℕ, _+_, _*_, _/_, _%_, _≤_, _<_}
 use native.Mathlib.Omega.{arith}
 use Rattle.words.specs.declared.Color.{Color}
 use Rattle.words.specs.Format.{Format, rgb332, rgb565, rgb8, argb, abgr, none, range}
@@ -30,6 +30,15 @@ byte5 v l = omega arith
 byte6 : (v : ℕ) → v < 64 → level6 v < 256
 unfolding level6
 byte6 v l = omega arith
+
+-- A level is the whole number nearest to its share of 255.
+nearest5 : (v : ℕ) → (v * 255 ≤ level5 v * 31 + 15) × (level5 v * 31 ≤ v * 255 + 15)
+unfolding level5
+nearest5 v = (omega arith, omega arith)
+
+nearest6 : (v : ℕ) → (v * 255 ≤ level6 v * 63 + 31) × (level6 v * 63 ≤ v * 255 + 31)
+unfolding level6
+nearest6 v = (omega arith, omega arith)
 
 -- What is read is a colour of bytes.
 pub read-channels : (f : Format) (w : ℕ) → Channels (toColor f w)

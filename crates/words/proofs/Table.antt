@@ -28,12 +28,16 @@ low-byte w =
     let b : w % 256 % 4 ≡ w % 4 = omega arith in
     rw (r, g, b)
 
+back-332 : (w : ℕ) → toColor argb (argb332 w) ≡ toColor rgb332 w
+unfolding argb332 keepsAlpha
+back-332 w = store-read argb (toColor rgb332 w) (read-channels rgb332 w) refl
+
 pub read-332 : {t : List ℕ} (w : ℕ) → t ≡ back332 → through332 t w ≡ toColor rgb332 w
-unfolding through332 back332 argb332 keepsAlpha
+unfolding through332 back332
 read-332 w e =
     ap (λ (l : List ℕ). toColor argb (getD l (w % 256) 0)) e
     ∙ ap (toColor argb) (run-at argb332 256 (w % 256) (omega arith))
-    ∙ store-read argb (toColor rgb332 (w % 256)) (read-channels rgb332 (w % 256)) refl
+    ∙ back-332 (w % 256)
     ∙ low-byte w
 
 pub read-565 : {s t : List ℕ} (w : ℕ) → s ≡ fives → t ≡ sixes → through565 s t w ≡ toColor rgb565 w

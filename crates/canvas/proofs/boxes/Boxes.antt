@@ -1,27 +1,32 @@
 -- Boxes of plots: what of them lands, and how many there are.
 use mathlib.Core.Path.{_≡_, refl, sym, ap, ap₂, _∙_}
-use mathlib.Core.Bool.{Bool, true, false, cond}
+use mathlib.Core.Bool.{Bool, true, false, cond, _||_}
 use mathlib.Core.List.{List, [], _∷_, _++_}
 use Prim.Native.Nat.{ℕ, zero, suc, _+_, _*_, _-_, _≤_, _<_}
 use native.Mathlib.Omega.{arith}
 use native.Mathlib.Nat.{le-trans, suc-mul, zero-mul, mul-le-mul-right}
+use native.Mathlib.Decide.{decLt}
+use borrow.Author.Tests.{eqb-true, eqb-false}
+use lib.Dec.{eqb}
 use lib.IntN.{ℤ, pos}
 use lib.ListN.{length, length-append}
 use mir.Syntax.{w32}
 use mir.Val.{SFits, toZ, ofZ}
 use mir.ValLaws.{toZ-ofZ}
-use Rattle.canvas.specs.declared.Canvas.{Canvas}
+use Rattle.pixels.specs.declared.Canvas.{Canvas}
 use Rattle.canvas.specs.declared.Clip.{Clip}
 use Rattle.canvas.specs.declared.Tally.{Tally}
-use Rattle.canvas.specs.Plot.{Point, at, Plot, plot, inks, Fate, landed, outside, clipped, fate, Hit, hit, hitOf, keep, hits, paint}
+use Rattle.canvas.specs.Plot.{Point, at, Plot, plot, inks, Fate, landed, outside, clipped, fate, hitOf, keep, hits}
+use Rattle.pixels.specs.Hits.{Hit, hit, paint}
 use Rattle.canvas.specs.Clip.{both, within, inClip}
-use Rattle.canvas.specs.Boxes.{select, side, each, spots, sourceOf, shown, fill}
-use Rattle.canvas.specs.Walk.{lowered, run, Cut, Shown, plus, Work, work, Fits, Ready, Did, mark, field, flat}
-use Rattle.canvas.proofs.bytes.Places.{area-le}
-use Rattle.canvas.proofs.span.Spans.{both-no, span-holds}
+use Rattle.canvas.specs.Boxes.{select, side, spots, sourceOf, shown, fill}
+use Rattle.pixels.specs.Rows.{each, run, mark, field, flat}
+use Rattle.canvas.specs.Walk.{lowered, Cut, Shown, plus, Work, work, Fits, Ready, Did}
+use Rattle.pixels.proofs.bytes.Places.{area-le}
+use Rattle.canvas.proofs.span.Spans.{both-no, select-none, span-holds}
 use Rattle.canvas.proofs.plot.Fates.{on-canvas, is-inside}
 use Rattle.canvas.proofs.plot.Paints.{inks-length, drawn-is}
-use Rattle.canvas.proofs.rows.Rows.{field-length}
+use Rattle.pixels.proofs.rows.Rows.{field-length}
 
 pub inks-append : (f : ℕ → ℕ) (ps qs : List Point) → inks f (ps ++ qs) ≡ inks f ps ++ inks f qs
 unfolding inks
@@ -174,6 +179,48 @@ module _ (v : Canvas) (c : Clip) (ps : List Plot) (f : ℕ → ℕ → ℕ → �
   field-did b′ t′ p q = record {
     same = ap₂ work (p ∙ ap (λ (hs : List Hit). paint v hs b) (sym e)) (q ∙ ap (plus t) (sym field-count)) ∙ sym (drawn-is v c ps (work b t));
   }
+
+-- ---- a box without columns or rows
+
+-- what two tests say, one after the other
+pub first-holds : (r a b : Bool) → r ≡ a → r ≡ true → true ≡ (a || b)
+first-holds r a b e t = rw (sym e ∙ t) refl
+
+pub second-says : (r a b s : Bool) → r ≡ a → r ≡ false → s ≡ b → s ≡ (a || b)
+second-says r a b s e t f = rw (sym e ∙ t) f
+
+pub neither : (a b : Bool) → (a || b) ≡ false → (a ≡ false) × (b ≡ false)
+neither true b e = absurd (let z : _≡_ {A = ℕ} 0 1 = cc in omega arith)
+neither false b e = (refl, e)
+
+pub some-sides : (w h : ℕ) → (eqb w 0 || eqb h 0) ≡ false → (1 ≤ w) × (1 ≤ h)
+some-sides w h e =
+    let n = neither (eqb w 0) (eqb h 0) e in
+    (omega (arith, eqb-false w 0 (n .0)), omega (arith, eqb-false h 0 (n .1)))
+
+no-span : (p n : ℕ) → side (lowered p) 0 n ≡ []
+no-span p n = select-none (λ k. within (lowered p) 0 (pos k)) 0 n (λ k l m. go k (decLt k (p - 2147483648)))
+  where
+    go : (k : ℕ) → Dec (k < p - 2147483648) → within (lowered p) 0 (pos k) ≡ false
+    go k (yes h) = span-holds p 0 _ _ refl refl .before k h
+    go k (no h) = span-holds p 0 _ _ refl refl .past k (omega arith)
+
+pub none-each : {A : Type 0} (xs : List ℕ) → each {A = A} (λ j. []) xs ≡ []
+unfolding each
+none-each [] = refl
+none-each (x ∷ xs) = none-each xs
+
+pub box-none : {A : Type 0} (g : ℕ → ℕ → List A) (p q w h m n : ℕ) → (eqb w 0 || eqb h 0) ≡ true → each (λ j. each (λ i. g i j) (side (lowered p) w m)) (side (lowered q) h n) ≡ []
+unfolding each
+box-none g p q w h m n e = go (eqb w 0) refl
+  where
+    go : (t : Bool) → eqb w 0 ≡ t → each (λ j. each (λ i. g i j) (side (lowered p) w m)) (side (lowered q) h n) ≡ []
+    go true f = rw (eqb-true w 0 f, no-span p m) (none-each (side (lowered q) h n))
+    go false f = let d : eqb h 0 ≡ true = rw f at e in rw (eqb-true h 0 d, no-span q n) refl
+
+pub fill-none : (v : Canvas) (p q w h : ℕ) → (eqb w 0 || eqb h 0) ≡ true → fill v (lowered p) (lowered q) w h ≡ []
+unfolding fill
+fill-none v p q w h e = box-none (λ i j. at (pos i) (pos j) ∷ []) p q w h (v .width) (v .height) e
 
 -- ---- how many points
 

@@ -2,31 +2,35 @@
 use mathlib.Core.Path.{_≡_, refl, sym, ap, ap₂, _∙_}
 use mathlib.Core.Bool.{Bool, true, false, cond, _||_}
 use mathlib.Core.List.{List, [], _∷_, _++_, append-nil, append-assoc, List·Permᴰ, List·Permᴰ·nil, List·Permᴰ·cons, List·Permᴰ·swap, List·Permᴰ·trans, Permᴰ·append-right, Permᴰ·append-left, List·Permᴰ·append-comm}
-use Prim.Native.Nat.{ℕ, zero, suc, _+_, _-_, _≤_, _<_, min}
+use Prim.Native.Nat.{ℕ, zero, suc, _+_, _*_, _-_, _/_, _≤_, _<_, min}
 use native.Mathlib.Omega.{arith}
 use native.Mathlib.Nat.{zero-add}
 use native.Mathlib.Decide.{decLt}
-use borrow.Author.Tests.{lt-ltb, le-ltb, le-leb, lt-leb, eq-eqb, ne-eqb}
+use borrow.Author.Tests.{eqb-false, lt-ltb, le-ltb, le-leb, lt-leb, ne-eqb}
 use lib.Dec.{leb, ltb, eqb, leb·zero}
 use lib.IntN.{ℤ, pos, negsuc, subℕ, _+ℤ_}
 use lib.Signed.{ltZ}
 use lib.ListN.{length, length-append}
 use Rattle.words.specs.declared.Ink.{Ink}
 use Rattle.words.specs.Ink.{inked}
-use Rattle.canvas.specs.declared.Canvas.{Canvas}
+use Rattle.pixels.specs.declared.Canvas.{Canvas}
 use Rattle.canvas.specs.declared.Clip.{Clip}
 use Rattle.canvas.specs.declared.Tally.{Tally}
 use Rattle.canvas.specs.Clip.{within}
-use Rattle.canvas.specs.Plot.{Point, at, Plot, inks, onCanvas, Hit, hits}
-use Rattle.canvas.specs.Boxes.{side, each, fill, below, border, outline}
-use Rattle.canvas.specs.Walk.{lowered, run, Holds, Work, work, drawn, Keeps, Ready, Did, flat}
+use Rattle.canvas.specs.Plot.{Point, at, inks, onCanvas, hits}
+use Rattle.pixels.specs.Hits.{Hit}
+use Rattle.canvas.specs.Boxes.{side, fill, below, border, outline}
+use Rattle.pixels.specs.Rows.{each, run, flat}
+use Rattle.canvas.specs.Strokes.{edges}
+use Rattle.canvas.specs.Walk.{lowered, Holds, Work, work, drawn, Keeps, Ready, Did}
 use Rattle.canvas.proofs.span.Spans.{both-no, run-is, select-none}
 use Rattle.canvas.proofs.span.Differences.{sub-pos, sub-add}
 use Rattle.canvas.proofs.plot.Fates.{off-across, off-down, is-outside, lands-on}
 use Rattle.canvas.proofs.plot.Paints.{drawn-is}
-use Rattle.canvas.proofs.plot.Orders.{perm-of, Screen, Plots, no-more, and, hits-all, By, by-pixel, paint-perm}
-use Rattle.canvas.proofs.rows.Rows.{each-same}
-use Rattle.canvas.proofs.boxes.Boxes.{inks-append, inks-each, hits-append, hits-each, select-le, each-le, fill-le}
+use Rattle.pixels.proofs.Orders.{perm-of, Screen, By, by-pixel, paint-perm}
+use Rattle.canvas.proofs.plot.Landed.{Plots, no-more, and, hits-all}
+use Rattle.pixels.proofs.rows.Rows.{each-same}
+use Rattle.canvas.proofs.boxes.Boxes.{inks-append, inks-each, hits-append, hits-each, neither, some-sides, none-each, fill-none, select-le, each-le, fill-le}
 
 -- ---- a span of one
 
@@ -63,6 +67,17 @@ one-of (negsuc m) n = off refl (select-none (λ k. within (negsuc m) 1 (pos k)) 
     past zero k = le-ltb k 0 (omega arith)
     past (suc m) k = rw (lt-ltb 1 (suc (suc m)) (omega arith)) refl
 
+-- ---- edges that reach the corners, the corners with the rows
+
+add-nought : (x : ℤ) → x +ℤ pos 0 ≡ x
+add-nought (pos n) = ap pos (omega arith)
+add-nought (negsuc n) = rw (lt-ltb 0 (suc n) (omega arith)) (ap negsuc (omega arith))
+
+no-inset : (v : Canvas) (x y : ℤ) (w h : ℕ) → edges v x y w h 0 1
+    ≡ fill v x y w 1 ++ (fill v x (y +ℤ pos (h - 1)) w 1 ++ (fill v x (y +ℤ pos 1) 1 (h - 2) ++ fill v (x +ℤ pos (w - 1)) (y +ℤ pos 1) 1 (h - 2)))
+unfolding edges
+no-inset v x y w h = let e : w - 2 * 0 ≡ w = omega arith in rw (add-nought x, e) refl
+
 module _ (v : Canvas) (c : Clip) (f : ℕ → ℕ) where
   abbrev land : List Point → List Hit
   land ps = hits v c (inks f ps)
@@ -88,11 +103,6 @@ module _ (v : Canvas) (c : Clip) (f : ℕ → ℕ) where
       go : One y (v .height) → land (each (λ i. at (pos i) y ∷ []) (side x w (v .width))) ≡ land (each (λ j. each (λ i. at (pos i) (pos j) ∷ []) (side x w (v .width))) (side y 1 (v .height)))
       go (on m e l s) = rw (e, rw e at s) (ap land (sym (append-nil (each (λ i. at (pos i) (pos m) ∷ []) (side x w (v .width))))))
       go (off e s) = rw s (land-off (λ i. at (pos i) y) (λ k. off-down v (pos k) y e) (side x w (v .width)))
-
-  none-each : (xs : List ℕ) → each {A = Point} (λ j. []) xs ≡ []
-  unfolding each
-  none-each [] = refl
-  none-each (x ∷ xs) = none-each xs
 
   column-lands : (x y : ℤ) (h : ℕ) → land (each (λ j. at x (pos j) ∷ []) (side y h (v .height))) ≡ land (fill v x y 1 h)
   unfolding fill each inks hits
@@ -156,15 +166,13 @@ module _ (v : Canvas) (c : Clip) (f : ℕ → ℕ) where
       List·Permᴰ·trans (perm-of (land-each (λ k. p k ∷ q k) xs ∙ each-same _ _ xs (λ k. land-append (p k ∷ []) (q k))))
       (List·Permᴰ·trans (each-both _ _ xs) (perm-of (ap (λ (l : List Hit). l ++ each (λ k. land (q k)) xs) (sym (land-each (λ k. p k ∷ []) xs)))))
 
-  land-four : (a b d e : List Plot) → hits v c (a ++ (b ++ (d ++ e))) ≡ (hits v c a ++ hits v c b) ++ (hits v c d ++ hits v c e)
+  land-four : (a b d e : List Point) → land (a ++ (b ++ (d ++ e))) ≡ (land a ++ land b) ++ (land d ++ land e)
   land-four a b d e =
-      hits-append v c a (b ++ (d ++ e))
-      ∙ ap (λ (l : List Hit). hits v c a ++ l) (hits-append v c b (d ++ e) ∙ ap (λ (l : List Hit). hits v c b ++ l) (hits-append v c d e))
-      ∙ sym (append-assoc (hits v c a) (hits v c b) (hits v c d ++ hits v c e))
+      land-append a (b ++ (d ++ e))
+      ∙ ap (λ (l : List Hit). land a ++ l) (land-append b (d ++ e) ∙ ap (λ (l : List Hit). land b ++ l) (land-append d e))
+      ∙ sym (append-assoc (land a) (land b) (land d ++ land e))
 
-  pub border-lands : (x y : ℤ) (w h : ℕ)
-      → List·Permᴰ (land (border v x y w h))
-      (hits v c (inks f (fill v x y w 1) ++ (inks f (fill v x (y +ℤ pos (h - 1)) w 1) ++ (inks f (fill v x (y +ℤ pos 1) 1 (h - 2)) ++ inks f (fill v (x +ℤ pos (w - 1)) (y +ℤ pos 1) 1 (h - 2))))))
+  border-lands : (x y : ℤ) (w h : ℕ) → List·Permᴰ (land (border v x y w h)) (land (edges v x y w h 0 1))
   unfolding border
   border-lands x y w h =
       let r = x +ℤ pos (w - 1) in
@@ -182,7 +190,7 @@ module _ (v : Canvas) (c : Clip) (f : ℕ → ℕ) where
       List·Permᴰ·trans (perm-of (land-append rows columns))
       (List·Permᴰ·trans (Permᴰ·append-right (land columns) tb)
       (List·Permᴰ·trans (Permᴰ·append-left (land (fill v x y w 1) ++ land (fill v x u w 1)) lr)
-      (perm-of (sym (land-four (inks f (fill v x y w 1)) (inks f (fill v x u w 1)) (inks f (fill v x (y +ℤ pos 1) 1 (h - 2))) (inks f (fill v r (y +ℤ pos 1) 1 (h - 2))))))))
+      (perm-of (sym (ap land (no-inset v x y w h) ∙ land-four (fill v x y w 1) (fill v x u w 1) (fill v x (y +ℤ pos 1) 1 (h - 2)) (fill v r (y +ℤ pos 1) 1 (h - 2)))))))
 
 -- ---- the code's four fills do a border's work
 
@@ -197,68 +205,55 @@ unfolding inks
 inks-plots f [] = no-more
 inks-plots f (p ∷ ps) = and refl (inks-plots f ps)
 
--- the sides of a box with a lifted corner
-unfoldable pub sides : Canvas → (ℕ → ℕ) → ℕ → ℕ → ℕ → ℕ → List Plot
-sides v f p q w h =
-    inks f (fill v (lowered p) (lowered q) w 1)
-    ++ (inks f (fill v (lowered p) (lowered (q + (h - 1))) w 1)
-    ++ (inks f (fill v (lowered p) (lowered (q + 1)) 1 (h - 2)) ++ inks f (fill v (lowered (p + (w - 1))) (lowered (q + 1)) 1 (h - 2))))
-
 pub lowered-add : (u k : ℕ) → lowered u +ℤ pos k ≡ lowered (u + k)
 unfolding lowered
 lowered-add u k = ap (λ (z : ℤ). subℕ u 2147483648 +ℤ z) (ap pos (omega arith) ∙ sym (sub-pos k 0 (omega arith))) ∙ sub-add u 2147483648 k 0
 
-module _ (v : Canvas) (c : Clip) (i : Ink) (k : Keeps v i) (p q w h : ℕ) (b : List ℕ) (t : Tally) (s : Screen v b) where
-  sides-perm : List·Permᴰ (hits v c (inks (inked i) (border v (lowered p) (lowered q) w h))) (hits v c (sides v (inked i) p q w h))
-  unfolding sides
-  sides-perm = rw (lowered-add q (h - 1), lowered-add q 1, lowered-add p (w - 1)) at (border-lands v c (inked i) (lowered p) (lowered q) w h)
-
-  sides-drawn : drawn v c (inks (inked i) (border v (lowered p) (lowered q) w h)) (work b t) ≡ drawn v c (sides v (inked i) p q w h) (work b t)
-  sides-drawn =
+module _ (v : Canvas) (c : Clip) (i : Ink) (k : Keeps v i) (x y : ℤ) (w h : ℕ) (b : List ℕ) (t : Tally) (s : Screen v b) where
+  border-drawn : drawn v c (inks (inked i) (border v x y w h)) (work b t) ≡ drawn v c (inks (inked i) (edges v x y w h 0 1)) (work b t)
+  border-drawn =
+      let p = border-lands v c (inked i) x y w h in
       drawn-is v c _ (work b t)
       ∙ ap₂ (λ (x : List ℕ) (n : ℕ). work x (record { landed = t .landed + n }))
-      (paint-perm v (By v (flat (inked i))) (by-pixel v (flat (inked i)) (λ x y u l. k .keeps u l)) b sides-perm s
+      (paint-perm v (By v (flat (inked i))) (by-pixel v (flat (inked i)) (λ x y u l. k .keeps u l)) b p s
       (hits-all v c (λ r. r .ink ≡ inked i) (By v (flat (inked i))) (λ r e l. record { on = lands-on v c r l; inked = e }) _ (inks-plots (inked i) _)))
-      (perm-length sides-perm)
-      ∙ sym (drawn-is v c (sides v (inked i) p q w h) (work b t))
+      (perm-length p)
+      ∙ sym (drawn-is v c (inks (inked i) (edges v x y w h 0 1)) (work b t))
 
-  pub sides-ready : Ready v c (inks (inked i) (border v (lowered p) (lowered q) w h)) (work b t) → Ready v c (sides v (inked i) p q w h) (work b t)
-  sides-ready r = record { sized = r .sized; room = rw sides-drawn at (r .room) }
+  pub border-ready : Ready v c (inks (inked i) (border v x y w h)) (work b t) → Ready v c (inks (inked i) (edges v x y w h 0 1)) (work b t)
+  border-ready r = record { sized = r .sized; room = rw border-drawn at (r .room) }
 
-  pub sides-did : {u : Work} → Did v c (sides v (inked i) p q w h) (work b t) u → Did v c (inks (inked i) (border v (lowered p) (lowered q) w h)) (work b t) u
-  sides-did d = record { same = d .same ∙ sym sides-drawn }
+  pub border-did : {u : Work} → Did v c (inks (inked i) (edges v x y w h 0 1)) (work b t) u → Did v c (inks (inked i) (border v x y w h)) (work b t) u
+  border-did d = record { same = d .same ∙ sym border-drawn }
 
 -- ---- the cases of an outline
 
-pub two : (n : ℕ) → (n ≡ 0 → ⊥) → (n ≡ 1 → ⊥) → 2 ≤ n
-two zero a b = absurd (a refl)
-two (suc zero) a b = absurd (b refl)
-two (suc (suc n)) a b = omega arith
+pub two-sides : (w h : ℕ) → (eqb (w / 2) 0 || eqb (h / 2) 0) ≡ false → (2 ≤ w) × (2 ≤ h)
+two-sides w h e = let l = some-sides (w / 2) (h / 2) e in (omega (arith, l .0), omega (arith, l .1))
 
-module _ (v : Canvas) (x y : ℤ) (w h : ℕ) where
-  pub no-width : w ≡ 0 → outline v x y w h ≡ []
+module _ (v : Canvas) (p q w h : ℕ) where
+  pub thin-box : (eqb (w / 2) 0 || eqb (h / 2) 0) ≡ true → outline v (lowered p) (lowered q) w h ≡ fill v (lowered p) (lowered q) w h
   unfolding outline
-  no-width e = rw (eq-eqb w 0 e) refl
-
-  pub no-height : h ≡ 0 → outline v x y w h ≡ []
-  unfolding outline
-  no-height e = rw (eq-eqb h 0 e) (go (eqb w 0))
+  thin-box e = none (eqb w 0 || eqb h 0) refl
     where
-      go : (t : Bool) → cond (t || true) [] (cond (eqb w 1 || eqb h 1) (fill v x y w h) (border v x y w h)) ≡ []
-      go true = refl
-      go false = refl
+      one : (t : Bool) → (eqb w 1 || eqb h 1) ≡ t → (1 ≤ w) × (1 ≤ h) → cond t (fill v (lowered p) (lowered q) w h) (border v (lowered p) (lowered q) w h) ≡ fill v (lowered p) (lowered q) w h
+      one true f l = refl
+      one false f l =
+          let n = neither (eqb w 1) (eqb h 1) f in
+          let a : eqb (w / 2) 0 ≡ false = ne-eqb (w / 2) 0 (λ z. omega (arith, l .0, eqb-false w 1 (n .0))) in
+          let b : eqb (h / 2) 0 ≡ false = ne-eqb (h / 2) 0 (λ z. omega (arith, l .1, eqb-false h 1 (n .1))) in
+          absurd (let d : false ≡ true = rw (a, b) at e in let z : _≡_ {A = ℕ} 0 1 = cc in omega arith)
 
-  pub one-wide : (w ≡ 0 → ⊥) → (h ≡ 0 → ⊥) → w ≡ 1 → outline v x y w h ≡ fill v x y w h
-  unfolding outline
-  one-wide a b e = rw (ne-eqb w 0 a, ne-eqb h 0 b, eq-eqb w 1 e) refl
+      none : (t : Bool) → (eqb w 0 || eqb h 0) ≡ t
+          → cond t [] (cond (eqb w 1 || eqb h 1) (fill v (lowered p) (lowered q) w h) (border v (lowered p) (lowered q) w h)) ≡ fill v (lowered p) (lowered q) w h
+      none true f = sym (fill-none v p q w h f)
+      none false f = one (eqb w 1 || eqb h 1) refl (some-sides w h f)
 
-  pub one-high : (w ≡ 0 → ⊥) → (h ≡ 0 → ⊥) → (w ≡ 1 → ⊥) → h ≡ 1 → outline v x y w h ≡ fill v x y w h
+  pub larger-box : (eqb (w / 2) 0 || eqb (h / 2) 0) ≡ false → outline v (lowered p) (lowered q) w h ≡ border v (lowered p) (lowered q) w h
   unfolding outline
-  one-high a b c e = rw (ne-eqb w 0 a, ne-eqb h 0 b, ne-eqb w 1 c, eq-eqb h 1 e) refl
-
-  pub larger-box : (w ≡ 0 → ⊥) → (h ≡ 0 → ⊥) → (w ≡ 1 → ⊥) → (h ≡ 1 → ⊥) → outline v x y w h ≡ border v x y w h
-  unfolding outline
-  larger-box a b c d = rw (ne-eqb w 0 a, ne-eqb h 0 b, ne-eqb w 1 c, ne-eqb h 1 d) refl
+  larger-box e =
+      let l = two-sides w h e in
+      rw (ne-eqb w 0 (λ z. omega arith), ne-eqb h 0 (λ z. omega arith), ne-eqb w 1 (λ z. omega arith), ne-eqb h 1 (λ z. omega arith)) refl
 
 -- ---- how many points
 

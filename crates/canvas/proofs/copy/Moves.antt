@@ -12,18 +12,19 @@ use lib.Seq.{getD-set-same, getD-set-other}
 use Rattle.words.specs.Format.{Format, rgb332, rgb565, rgb8, argb, abgr, none, formatOf, range}
 use Rattle.words.specs.Word.{fromColor, toColor, seen}
 use Rattle.words.proofs.Reading.{read-store}
-use Rattle.canvas.specs.declared.Canvas.{Canvas}
-use Rattle.canvas.specs.Bytes.{form, loadAt}
-use Rattle.canvas.specs.Plot.{Hit, paint}
-use Rattle.canvas.specs.Boxes.{each}
-use Rattle.canvas.specs.Walk.{lowered, run, mark, marks, field, laid, Taken, SeenAs, shifted, Sourced}
+use Rattle.pixels.specs.declared.Canvas.{Canvas}
+use Rattle.pixels.specs.Bytes.{form, loadAt}
+use Rattle.pixels.specs.Hits.{Hit, paint}
+use Rattle.pixels.specs.Rows.{each, run, mark, marks, field, laid}
+use Rattle.pixels.proofs.chunks.Chunks.{Taken}
+use Rattle.canvas.specs.Walk.{lowered, SeenAs, shifted, Sourced}
 use Rattle.canvas.specs.Areas.{copied}
 use Rattle.canvas.proofs.span.Sources.{source-at}
-use Rattle.canvas.proofs.bytes.Cells.{Bytes}
-use Rattle.canvas.proofs.bytes.Pixels.{load-lt}
-use Rattle.canvas.proofs.plot.Orders.{Screen, All, By}
-use Rattle.canvas.proofs.rows.Rows.{paint-length}
-use Rattle.canvas.proofs.rows.Parts.{join-after, join-before, marks-all, field-all, marks-alike, field-alike, Elsewhere, load-elsewhere}
+use Rattle.pixels.proofs.bytes.Cells.{Bytes}
+use Rattle.pixels.proofs.bytes.Pixels.{load-lt}
+use Rattle.pixels.proofs.Orders.{Screen, All, By}
+use Rattle.pixels.proofs.Hits.{paint-length}
+use Rattle.pixels.proofs.rows.Parts.{join-after, join-before, marks-all, field-all, marks-alike, field-alike, Elsewhere, load-elsewhere}
 
 -- ---- top bytes
 

@@ -11,6 +11,7 @@ use mir.Syntax.{w32}
 use mir.Val.{SFits, toZ, ofZ}
 use mir.ValLaws.{toZ-ofZ}
 use Rattle.canvas.specs.declared.Refusal.the-variants.{Shape}
+use Rattle.canvas.specs.declared.faults.Verdict.{Verdict}
 use Rattle.canvas.specs.declared.faults.Verdict.the-variants.{Sound}
 use Rattle.canvas.specs.Faults.{outside, angleFault, shapeFault, arcFault, Shaped}
 use Rattle.canvas.proofs.faults.Verdicts.{passes, neither, both-sound}
@@ -26,6 +27,14 @@ module _ (a low high : ℤ) (sa : SFits w32 a) (sl : SFits w32 low) (sh : SFits 
 -- what `beyond` answered of an argument
 pub told : (low high a : ℤ) (r t : Bool) → SFits w32 a → r ≡ outside low high (toZ w32 (ofZ w32 a)) → r ≡ t → outside low high a ≡ t
 told low high a r t s e h = sym (rw (toZ-ofZ w32 a s) at e) ∙ h
+
+-- what `shape_fault` and `arc_fault` answered of arguments
+pub shape-of : (x y : ℤ) (w h : ℕ) (d : Verdict) → SFits w32 x → SFits w32 y → d ≡ shapeFault (toZ w32 (ofZ w32 x)) (toZ w32 (ofZ w32 y)) w h → d ≡ shapeFault x y w h
+shape-of x y w h d sx sy e = rw (toZ-ofZ w32 x sx, toZ-ofZ w32 y sy) at e
+
+pub arc-of : (x y : ℤ) (w h : ℕ) (start arc : ℤ) (d : Verdict) → SFits w32 x → SFits w32 y → SFits w32 start → SFits w32 arc
+    → d ≡ arcFault (toZ w32 (ofZ w32 x)) (toZ w32 (ofZ w32 y)) w h (toZ w32 (ofZ w32 start)) (toZ w32 (ofZ w32 arc)) → d ≡ arcFault x y w h start arc
+arc-of x y w h start arc d sx sy ss sa e = rw (toZ-ofZ w32 x sx, toZ-ofZ w32 y sy, toZ-ofZ w32 start ss, toZ-ofZ w32 arc sa) at e
 
 -- ---- a box without a fault
 

@@ -7,13 +7,13 @@ use native.Mathlib.Omega.{arith}
 use borrow.Author.Tests.{ltb-false, eqb-true}
 use lib.Dec.{ltb, eqb}
 use lib.ListN.{length}
-use Rattle.canvas.specs.declared.Canvas.{Canvas}
+use Rattle.pixels.specs.declared.Canvas.{Canvas}
 use Rattle.canvas.specs.declared.Refusal.{Refusal}
 use Rattle.canvas.specs.declared.Refusal.the-variants.{Format, Size, Length}
 use Rattle.canvas.specs.declared.faults.Verdict.{Verdict}
 use Rattle.canvas.specs.declared.faults.Verdict.the-variants.{Sound, Faulty}
-use Rattle.canvas.specs.Bytes.{extent}
-use Rattle.canvas.specs.Faults.{fault, formatFault, sizeFault, lengthFault, orElse, verdict, Sized}
+use Rattle.pixels.specs.Bytes.{extent, Sized}
+use Rattle.canvas.specs.Faults.{fault, formatFault, sizeFault, lengthFault, orElse, verdict}
 
 pub or-faulty : (f d : Verdict) (r : Refusal) → f ≡ Faulty r → f ≡ orElse f d
 unfolding orElse

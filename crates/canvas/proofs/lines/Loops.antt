@@ -16,9 +16,9 @@ use Rattle.segments.specs.declared.Segment.{Segment}
 use Rattle.segments.specs.declared.Clipped.{Clipped}
 use Rattle.segments.specs.declared.Clipped.the-variants.{Left, Nothing}
 use Rattle.segments.specs.Cut.{clipSegment}
-use Rattle.canvas.specs.declared.Canvas.{Canvas}
+use Rattle.pixels.specs.declared.Canvas.{Canvas}
 use Rattle.canvas.specs.declared.Clip.{Clip}
-use Rattle.canvas.specs.declared.span.Span.{Span}
+use Rattle.pixels.specs.declared.rows.Span.{Span}
 use Rattle.canvas.specs.declared.lines.Pen.{Pen}
 use Rattle.canvas.specs.declared.lines.Way.{Way}
 use Rattle.canvas.specs.Plot.{Point, at, inks}

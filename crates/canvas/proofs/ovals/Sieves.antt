@@ -5,7 +5,7 @@ use mathlib.Core.List.{List, [], _∷_}
 use Prim.Native.Nat.{ℕ, suc, _+_, _-_, _≤_, _<_}
 use native.Mathlib.Omega.{arith}
 use native.Mathlib.Decide.{decLt}
-use borrow.Author.Tests.{lt-ltb, le-ltb, eq-eqb, ne-eqb}
+use borrow.Author.Tests.{lt-ltb, le-ltb}
 use lib.Dec.{eqb}
 use lib.Ieee.{Float}
 use lib.IntN.{ℤ, pos, negsuc, natAbs, subℕ, _+ℤ_}
@@ -24,20 +24,22 @@ use Rattle.curves.specs.Pies.{pieOf, inPie, Inside}
 use Rattle.curves.specs.Regions.{takes}
 use Rattle.curves.proofs.Domain.{apt}
 use Rattle.curves.proofs.Parts.{in-pie-is, in-round-is}
-use Rattle.canvas.specs.declared.Canvas.{Canvas}
+use Rattle.pixels.specs.declared.Canvas.{Canvas}
 use Rattle.canvas.specs.declared.Clip.{Clip}
 use Rattle.canvas.specs.Faults.{Shaped}
-use Rattle.canvas.specs.Plot.{Point, at, Plot, inks, Hit, hits}
+use Rattle.canvas.specs.Plot.{Point, at, Plot, inks, hits}
+use Rattle.pixels.specs.Hits.{Hit}
 use Rattle.canvas.specs.Clip.{both, within}
-use Rattle.canvas.specs.Boxes.{side, each, fill}
+use Rattle.canvas.specs.Boxes.{side, fill}
+use Rattle.pixels.specs.Rows.{each, run, mark, flat}
 use Rattle.canvas.specs.Curves.{sieve, pie, roundFill}
-use Rattle.canvas.specs.Walk.{lowered, run, Cut, Work, Fits, Ready, Did, mark, flat}
+use Rattle.canvas.specs.Walk.{lowered, Cut, Work, Fits, Ready, Did}
 use Rattle.canvas.specs.Sift.{sift, sifted, land, AskedAt, AskedIn}
 use Rattle.canvas.proofs.span.Spans.{span-holds}
 use Rattle.canvas.proofs.plot.Draws.{did-none}
 use Rattle.canvas.proofs.plot.Paints.{drawn-is}
-use Rattle.canvas.proofs.rows.Rows.{each-same}
-use Rattle.canvas.proofs.boxes.Boxes.{inks-each, spot-hit, pixels-hits, cut-run, pixels-le, fill-le}
+use Rattle.pixels.proofs.rows.Rows.{each-same}
+use Rattle.canvas.proofs.boxes.Boxes.{inks-each, spot-hit, pixels-hits, cut-run, neither, box-none, fill-none, pixels-le, fill-le}
 
 -- ---- what lands
 
@@ -109,21 +111,19 @@ inside x w i l m n e = let k = both-are (leZ x (pos i)) (ltZ (pos i) (x +ℤ pos
     both-are true b e = (refl, e)
     both-are false b e = absurd (let z : _≡_ {A = ℕ} 0 1 = cc in omega arith)
 
-pub no-side : (w h : ℕ) → 0 < w → 0 < h → (eqb w 0 || eqb h 0) ≡ false
-no-side w h l m = rw (ne-eqb w 0 (λ e. omega arith), ne-eqb h 0 (λ e. omega arith)) refl
-
 module _ (v : Canvas) (x y : ℤ) (w h : ℕ) (start arc : ℤ) where
-  pub pie-none : (eqb w 0 || eqb h 0) ≡ true → pie v x y w h start arc ≡ []
-  unfolding pie
-  pie-none e = rw e refl
-
   module _ (k : Pie) (p q : ℕ) (e : k ≡ pieOf x y w h start arc) (a : lowered p ≡ x) (b : lowered q ≡ y) where
-    pub pie-sieve : 0 < w → 0 < h → pie v x y w h start arc ≡ sieve (takes (Sector k)) (side (lowered p) w (v .width)) (side (lowered q) h (v .height))
-    unfolding pie
-    pie-sieve l m =
-        rw (no-side w h l m, a, b, e)
-        (sieve-alike (inPie x y w h start arc) (takes (Sector (pieOf x y w h start arc))) (side x w (v .width)) (side y h (v .height))
-        (λ i j. sym (in-pie-is x y w h start arc i j)))
+    pub pie-sieve : pie v x y w h start arc ≡ sieve (takes (Sector k)) (side (lowered p) w (v .width)) (side (lowered q) h (v .height))
+    unfolding pie sieve
+    pie-sieve = go (eqb w 0 || eqb h 0) refl
+      where
+        go : (t : Bool) → (eqb w 0 || eqb h 0) ≡ t
+            → cond t [] (sieve (inPie x y w h start arc) (side x w (v .width)) (side y h (v .height))) ≡ sieve (takes (Sector k)) (side (lowered p) w (v .width)) (side (lowered q) h (v .height))
+        go true f = sym (box-none (λ i j. cond (takes (Sector k) i j) (at (pos i) (pos j) ∷ []) []) p q w h (v .width) (v .height) f)
+        go false f =
+            rw (a, b, e)
+            (sieve-alike (inPie x y w h start arc) (takes (Sector (pieOf x y w h start arc))) (side x w (v .width)) (side y h (v .height))
+            (λ i j. sym (in-pie-is x y w h start arc i j)))
 
     pub pie-asked : Shaped x y w h → (t : List ℕ) → t ≡ nodes → AskedIn (Sector k) t (lowered p) (lowered q) w h
     pie-asked s t f = rw (a, b, e) (record {
@@ -153,38 +153,33 @@ pie-le v x y w h start arc hw hh = either-le (eqb w 0 || eqb h 0) [] _ (omega ar
 -- ---- the sieve of a round fill
 
 module _ (v : Canvas) (x y : ℤ) (w h aw ah : ℕ) where
-  pub round-none : (eqb w 0 || eqb h 0) ≡ true → roundFill v x y w h aw ah ≡ []
-  unfolding roundFill
-  round-none e = rw e refl
-
   pub round-le : v .width ≤ 32767 → v .height ≤ 32767 → length (roundFill v x y w h aw ah) ≤ 1073676289
   unfolding roundFill
   round-le hw hh =
       either-le (eqb w 0 || eqb h 0) [] _ (omega arith)
       (either-le (eqb aw 0 || eqb ah 0) (fill v x y w h) _ (fill-le v x y w h hw hh) (sieve-le v (inRound x y w h aw ah) x y w h hw hh))
 
-  module _ (p q : ℕ) (a : lowered p ≡ x) (b : lowered q ≡ y) (l : 0 < w) (m : 0 < h) where
-    pub round-plain : (eqb aw 0 || eqb ah 0) ≡ true → roundFill v x y w h aw ah ≡ fill v (lowered p) (lowered q) w h
+  module _ (p q : ℕ) (a : lowered p ≡ x) (b : lowered q ≡ y) where
+    pub round-plain : ((eqb w 0 || eqb h 0) || (eqb aw 0 || eqb ah 0)) ≡ true → roundFill v x y w h aw ah ≡ fill v (lowered p) (lowered q) w h
     unfolding roundFill
-    round-plain e = rw (no-side w h l m, e, a, b) refl
+    round-plain e = go (eqb w 0 || eqb h 0) refl
+      where
+        go : (t : Bool) → (eqb w 0 || eqb h 0) ≡ t
+            → cond t [] (cond (eqb aw 0 || eqb ah 0) (fill v x y w h) (sieve (inRound x y w h aw ah) (side x w (v .width)) (side y h (v .height)))) ≡ fill v (lowered p) (lowered q) w h
+        go true f = sym (fill-none v p q w h f)
+        go false f = let g : (eqb aw 0 || eqb ah 0) ≡ true = rw f at e in rw (g, a, b) refl
 
-    pub round-sieve : (k : Corners) → k ≡ cornersOf x y (x +ℤ pos (w - 1)) (y +ℤ pos (h - 1)) (radiusOf aw w) (radiusOf ah h) → 0 < aw → 0 < ah
+    pub round-sieve : (k : Corners) → k ≡ cornersOf x y (x +ℤ pos (w - 1)) (y +ℤ pos (h - 1)) (radiusOf aw w) (radiusOf ah h) → ((eqb w 0 || eqb h 0) || (eqb aw 0 || eqb ah 0)) ≡ false
         → roundFill v x y w h aw ah ≡ sieve (takes (Rounded k)) (side (lowered p) w (v .width)) (side (lowered q) h (v .height))
     unfolding roundFill
-    round-sieve k e c d =
-        rw (no-side w h l m, no-side aw ah c d, a, b, e)
+    round-sieve k e c =
+        let n = neither (eqb w 0 || eqb h 0) (eqb aw 0 || eqb ah 0) c in
+        rw (n .0, n .1, a, b, e)
         (sieve-alike (inRound x y w h aw ah) (takes (Rounded (cornersOf x y (x +ℤ pos (w - 1)) (y +ℤ pos (h - 1)) (radiusOf aw w) (radiusOf ah h))))
         (side x w (v .width)) (side y h (v .height)) (λ i j. sym (in-round-is x y w h aw ah i j)))
 
 pub round-asked : (k : Corners) (t : List ℕ) (x y : ℤ) (w h : ℕ) → AskedIn (Rounded k) t x y w h
 round-asked k t x y w h = record { rows = λ j x0 x1 l m n o. tt }
-
--- what a test of a side that is 0 says of the two
-pub first-none : (w h : ℕ) → w ≡ 0 → (eqb w 0 || eqb h 0) ≡ true
-first-none w h e = rw (eq-eqb w 0 e) refl
-
-pub second-none : (w h : ℕ) → 0 < w → h ≡ 0 → (eqb w 0 || eqb h 0) ≡ true
-second-none w h l e = rw (ne-eqb w 0 (λ z. omega arith), eq-eqb h 0 e) refl
 
 pub did-nothing : {v : Canvas} {c : Clip} {w : Work} (f : ℕ → ℕ) (ps : List Point) → ps ≡ [] → Did v c (inks f ps) w w
 unfolding inks

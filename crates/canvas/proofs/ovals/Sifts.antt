@@ -9,17 +9,17 @@ use lib.ListN.{length, length-append}
 use Rattle.curves.specs.declared.regions.Region.{Region}
 use Rattle.curves.specs.declared.regions.Region.the-variants.{Sector, Rounded}
 use Rattle.curves.specs.Regions.{Asked, Next}
-use Rattle.canvas.specs.declared.Canvas.{Canvas}
+use Rattle.pixels.specs.declared.Canvas.{Canvas}
 use Rattle.canvas.specs.declared.Tally.{Tally}
-use Rattle.canvas.specs.Faults.{Sized}
-use Rattle.canvas.specs.Plot.{Hit, paint}
-use Rattle.canvas.specs.Boxes.{each}
-use Rattle.canvas.specs.Walk.{run, plus, Work, work, Fits, marks, flat}
+use Rattle.pixels.specs.Bytes.{Sized}
+use Rattle.pixels.specs.Hits.{Hit, paint}
+use Rattle.pixels.specs.Rows.{each, run, marks, flat}
+use Rattle.canvas.specs.Walk.{plus, Work, work, Fits}
 use Rattle.canvas.specs.Sift.{sift, sifts, land}
-use Rattle.canvas.proofs.bytes.Pixels.{sized-length}
-use Rattle.canvas.proofs.plot.Orders.{paint-append}
-use Rattle.canvas.proofs.rows.Rows.{paint-length, run-step, run-none, marks-length}
-use Rattle.canvas.proofs.rows.Parts.{parts, run-alike}
+use Rattle.pixels.proofs.bytes.Pixels.{sized-length}
+use Rattle.pixels.proofs.Hits.{paint-append, paint-length}
+use Rattle.pixels.proofs.rows.Rows.{run-step, run-none, marks-length}
+use Rattle.pixels.proofs.rows.Parts.{parts, run-alike}
 
 -- ---- the invariant: what is left leads to the same end as all of it from the start
 

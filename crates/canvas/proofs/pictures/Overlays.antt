@@ -14,16 +14,20 @@ use Rattle.blending.specs.Blend.{blendWord}
 use Rattle.blending.specs.Loops.{argbOf, pairwise, blended, stored}
 use Rattle.blending.proofs.Laws.{opaque-stores}
 use Rattle.blending.proofs.Runs.{argb-at, argb-length, blended-at, blended-length}
-use Rattle.canvas.specs.declared.Canvas.{Canvas}
-use Rattle.canvas.specs.Bytes.{form, loadAt, storeAt}
-use Rattle.canvas.specs.Plot.{Plot, plot, Dot, dip, Hit, touch, paint}
-use Rattle.canvas.specs.Boxes.{each, spots, picture}
+use Rattle.pixels.specs.declared.Canvas.{Canvas}
+use Rattle.pixels.specs.Bytes.{form, loadAt, storeAt}
+use Rattle.canvas.specs.Plot.{Plot, plot, Dot, dip}
+use Rattle.pixels.specs.Hits.{Hit, touch, paint}
+use Rattle.pixels.specs.Rows.{each, run, mark, marks, field, laid}
+use Rattle.pixels.proofs.chunks.Chunks.{Taken}
+use Rattle.canvas.specs.Boxes.{spots, picture}
 use Rattle.canvas.specs.Call.{sourceColor}
-use Rattle.canvas.specs.Walk.{lowered, run, mark, marks, field, laid, Taken, overlaid, Sourced, Solid}
-use Rattle.canvas.proofs.bytes.Pixels.{load-other}
+use Rattle.canvas.specs.Walk.{lowered, overlaid, Sourced, Solid}
+use Rattle.pixels.proofs.bytes.Pixels.{load-other}
 use Rattle.canvas.proofs.span.Sources.{source-at}
-use Rattle.canvas.proofs.rows.Rows.{paint-length, each-same}
-use Rattle.canvas.proofs.rows.Parts.{join-after, marks-alike, field-alike}
+use Rattle.pixels.proofs.Hits.{paint-length}
+use Rattle.pixels.proofs.rows.Rows.{each-same}
+use Rattle.pixels.proofs.rows.Parts.{join-after, marks-alike, field-alike}
 
 -- ---- a row whose words were worked out before any was written
 

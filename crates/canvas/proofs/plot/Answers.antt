@@ -1,5 +1,5 @@
 -- From the inner functions to the calls: what a sound canvas and a faulty one answer.
-use mathlib.Core.Path.{_≡_, refl, sym, ap, _∙_}
+use mathlib.Core.Path.{_≡_, refl, sym, ap, ap₂, _∙_}
 use mathlib.Core.List.{List, [], _∷_}
 use Prim.Native.Nat.{ℕ, _+_, _<_}
 use native.Mathlib.Nat.{zero-add}
@@ -10,21 +10,25 @@ use Rattle.words.specs.declared.Ink.{Ink}
 use Rattle.words.specs.Format.{range}
 use Rattle.words.specs.Ink.{plotWord, plotInk, inked}
 use Rattle.words.proofs.Laws.{Channels, ink-is, plot-keeps}
-use Rattle.canvas.specs.declared.Canvas.{Canvas}
+use Rattle.pixels.specs.declared.Canvas.{Canvas}
 use Rattle.canvas.specs.declared.Clip.{Clip}
 use Rattle.canvas.specs.declared.Drawn.the-variants.{Refused, Done}
 use Rattle.canvas.specs.declared.Refusal.{Refusal}
 use Rattle.canvas.specs.declared.Tally.{Tally}
 use Rattle.canvas.specs.declared.faults.Verdict.{Verdict}
 use Rattle.canvas.specs.declared.faults.Verdict.the-variants.{Sound, Faulty}
-use Rattle.canvas.specs.Bytes.{form}
-use Rattle.canvas.specs.Faults.{orElse, verdict, asSource, Sized}
-use Rattle.canvas.specs.Plot.{Plot, plot, Point, inks, tint, dip, hits, paint}
+use Rattle.canvas.specs.declared.faults.Start.{Start}
+use Rattle.canvas.specs.declared.faults.Start.the-variants as start
+use Rattle.pixels.specs.Bytes.{form, Sized}
+use Rattle.canvas.specs.Faults.{orElse, verdict, asSource}
+use Rattle.canvas.specs.Plot.{Plot, plot, Point, inks, tint, dip, hits}
+use Rattle.pixels.specs.Hits.{paint}
 use Rattle.canvas.specs.Call.{outcome, statusOf, countOf, leaves, drawing}
+use Rattle.canvas.specs.Start.{started}
 use Rattle.canvas.specs.Walk.{Work, work, Keeps, Did}
-use Rattle.canvas.proofs.bytes.Cells.{Bytes}
+use Rattle.pixels.proofs.bytes.Cells.{Bytes}
 use Rattle.canvas.proofs.plot.Paints.{drawn-is, drawn-ink}
-use Rattle.canvas.proofs.faults.Verdicts.{sized}
+use Rattle.canvas.proofs.faults.Verdicts.{both-sound, sized}
 
 -- points of one colour
 pub dip-tint : (g : Color → ℕ → ℕ) (c : Color) (ps : List Point) → dip g (tint c ps) ≡ inks (g c) ps
@@ -41,29 +45,25 @@ pub declines : (v : Canvas) (b : List ℕ) (a : Verdict) (c : Clip) (ps : List P
 unfolding statusOf countOf drawing
 declines v b a c ps r h = rw h refl
 
-module _ (v : Canvas) (b : List ℕ) (d : Verdict) (e : d ≡ verdict v (length b)) where
-  pub refuses : (own : Verdict) (c : Clip) (ps : List Plot) (r : Refusal) → d ≡ Faulty r → leaves (Refused r) b ≡ drawing (orElse (verdict v (length b)) own) v c ps b
-  unfolding orElse
-  refuses own c ps r h = declines v b (orElse (verdict v (length b)) own) c ps r (rw (← e, h) refl)
+pub accepts : (v : Canvas) (b : List ℕ) (d : Verdict) → d ≡ verdict v (length b) → d ≡ Sound → Sized v b
+accepts v b d e h = sized v b (sym e ∙ h)
 
-  pub accepts : d ≡ Sound → Sized v b
-  accepts h = sized v b (sym e ∙ h)
+-- ---- the first fault of a canvas and of a source
 
-  pub sound : (own : Verdict) → d ≡ Sound → own ≡ Sound → orElse (verdict v (length b)) own ≡ Sound
-  unfolding orElse
-  sound own h o = rw (← e, h) o
+as-source : (a : Verdict) → asSource a ≡ Sound → a ≡ Sound
+as-source Sound q = refl
+as-source (Faulty r) q = absurd (let z : _≡_ {A = ℕ} 0 1 = cc in omega arith)
 
-  pub faulty-own : (own : Verdict) (r : Refusal) → d ≡ Sound → own ≡ Faulty r → orElse (verdict v (length b)) own ≡ Faulty r
-  unfolding orElse
-  faulty-own own r h o = rw (← e, h) o
+module _ (v : Canvas) (b : List ℕ) (s : Canvas) (m : List ℕ) (f d a : Verdict)
+    (e : a ≡ orElse f d) (p : f ≡ verdict v (length b)) (q : d ≡ asSource (verdict s (length m))) where
+  pub first-of : a ≡ orElse (verdict v (length b)) (asSource (verdict s (length m)))
+  first-of = e ∙ ap₂ orElse p q
 
--- a source that is no fault is sound
-pub source-accepts : (v : Canvas) (b : List ℕ) (d : Verdict) → d ≡ asSource (verdict v (length b)) → d ≡ Sound → Sized v b
-source-accepts v b d e h = sized v b (go (verdict v (length b)) (sym e ∙ h))
-  where
-    go : (a : Verdict) → asSource a ≡ Sound → a ≡ Sound
-    go Sound q = refl
-    go (Faulty r) q = absurd (let z : _≡_ {A = ℕ} 0 1 = cc in omega arith)
+  pub first-sized : a ≡ Sound → Sized v b
+  first-sized h = sized v b (both-sound _ _ (sym first-of ∙ h) .0)
+
+  pub first-source : a ≡ Sound → Sized s m
+  first-source h = sized s m (as-source _ (both-sound (verdict v (length b)) (asSource (verdict s (length m))) (sym first-of ∙ h) .1))
 
 -- the plots were made, and the call is accepted
 pub finishes : (v : Canvas) (b : List ℕ) (c : Clip) (ps : List Plot) (a : Verdict) (t₀ t : Tally) (b′ : List ℕ) → a ≡ Sound → t₀ .landed ≡ 0 → Did v c ps (work b t₀) (work b′ t)
@@ -89,3 +89,41 @@ draws v b c color ps i a t₀ t b′ h o k m z w =
     let f : ℕ → ℕ = plotWord (form v) (v .xor) color in
     rw (dip-tint (plotWord (form v) (v .xor)) color ps)
     (finishes v b c (inks f ps) a t₀ t b′ h z (did-ink (inked i) f ps o (λ u l. rw m (ink-is (form v) (v .xor) color u k l)) w))
+
+-- ---- what the start of a call of one colour says
+
+started-refused : (a : Verdict) (v : Canvas) (color : Color) (r : Refusal) → started a v color ≡ start.Refused r → a ≡ Faulty r
+unfolding started
+started-refused Sound v color r e = absurd (let z : _≡_ {A = ℕ} 0 1 = cc in omega arith)
+started-refused (Faulty s) v color r e = cc
+
+started-with : (a : Verdict) (v : Canvas) (color : Color) (i : Ink) → started a v color ≡ start.With i → (a ≡ Sound) × (i ≡ plotInk (form v) (v .xor) color)
+unfolding started
+started-with Sound v color i e = (refl, cc)
+started-with (Faulty s) v color i e = absurd (let z : _≡_ {A = ℕ} 0 1 = cc in omega arith)
+
+module _ (v : Canvas) (b : List ℕ) (own : Verdict) (color : Color) (o : Verdict) (s : Start) (f : o ≡ own) (e : s ≡ started (orElse (verdict v (length b)) o) v color) where
+  start-is : s ≡ started (orElse (verdict v (length b)) own) v color
+  start-is = rw (← f) e
+
+  -- a refusal is the first fault
+  pub start-refuses : (c : Clip) (ps : List Plot) (r : Refusal) → s ≡ start.Refused r → leaves (Refused r) b ≡ drawing (orElse (verdict v (length b)) own) v c ps b
+  start-refuses c ps r h = declines v b (orElse (verdict v (length b)) own) c ps r (started-refused _ v color r (sym start-is ∙ h))
+
+  -- an ink comes without a fault, and is the colour's
+  module _ (i : Ink) (h : s ≡ start.With i) where
+    with-is : (orElse (verdict v (length b)) own ≡ Sound) × (i ≡ plotInk (form v) (v .xor) color)
+    with-is = started-with (orElse (verdict v (length b)) own) v color i (sym start-is ∙ h)
+
+    pub start-sized : Sized v b
+    start-sized = sized v b (both-sound (verdict v (length b)) own (with-is .0) .0)
+
+    pub start-own : own ≡ Sound
+    start-own = both-sound (verdict v (length b)) own (with-is .0) .1
+
+    pub start-keeps : Channels color → Keeps v i
+    start-keeps k = ink-keeps v color i k (with-is .1)
+
+    pub start-draws : (c : Clip) (ps : List Point) (t : Tally) (b′ : List ℕ) → Bytes b → Channels color → Did v c (inks (inked i) ps) (work b (record { landed = 0 })) (work b′ t)
+        → leaves (Done t) b′ ≡ drawing (orElse (verdict v (length b)) own) v c (dip (plotWord (form v) (v .xor)) (tint color ps)) b
+    start-draws c ps t b′ q k w = draws v b c color ps i (orElse (verdict v (length b)) own) (record { landed = 0 }) t b′ (with-is .0) q k (with-is .1) refl w

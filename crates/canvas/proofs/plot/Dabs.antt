@@ -10,17 +10,18 @@ use lib.Dec.{ltb, leb}
 use lib.IntN.{ℤ, pos, negsuc, natAbs}
 use lib.ListN.{length}
 use lib.Signed.{leZ, ltZ}
-use Rattle.canvas.specs.declared.Canvas.{Canvas}
+use Rattle.pixels.specs.declared.Canvas.{Canvas}
 use Rattle.canvas.specs.declared.Clip.{Clip}
 use Rattle.canvas.specs.declared.Tally.{Tally}
-use Rattle.canvas.specs.declared.span.Span.{Span}
+use Rattle.pixels.specs.declared.rows.Span.{Span}
 use Rattle.canvas.specs.Clip.{both, within, inClip}
-use Rattle.canvas.specs.Plot.{Point, at, Plot, plot, inks, hit, landed, judge, onCanvas, fate, touch}
+use Rattle.canvas.specs.Plot.{Point, at, Plot, plot, inks, landed, judge, onCanvas, fate}
+use Rattle.pixels.specs.Hits.{hit, touch}
 use Rattle.canvas.specs.Walk.{lowered, Holds, Cut, plus, Work, work, act, drawn, Did, covers, dabbed, dabs, Window, Fields}
 use Rattle.canvas.proofs.span.Lifts.{lowered-neg, lowered-pos}
 use Rattle.canvas.proofs.span.Spans.{both-no, same-leb}
 use Rattle.canvas.proofs.plot.Fates.{side-yes, side-past, side-minus, both-right}
-use Rattle.canvas.proofs.plot.Draws.{touch-length}
+use Rattle.pixels.proofs.Hits.{touch-length}
 
 side-holds : (n : ℕ) → Holds (λ i. within (pos 0) n (pos i)) 0 n
 side-holds n = record { before = λ k l. absurd (omega arith); inside = λ k l m. side-yes n k m; past = λ k l. side-past n k l }

@@ -4,13 +4,14 @@ use mathlib.Core.List.{List, [], _∷_, _++_}
 use Prim.Native.Nat.{ℕ, suc, _+_, _-_, _≤_, _<_}
 use native.Mathlib.Omega.{arith}
 use lib.ListN.{length}
-use Rattle.canvas.specs.declared.Canvas.{Canvas}
+use Rattle.pixels.specs.declared.Canvas.{Canvas}
 use Rattle.canvas.specs.declared.Clip.{Clip}
 use Rattle.canvas.specs.declared.Tally.{Tally}
-use Rattle.canvas.specs.Faults.{Sized}
-use Rattle.canvas.specs.Plot.{Plot, Fate, landed, outside, clipped, fate, Hit, hitOf, touch}
+use Rattle.pixels.specs.Bytes.{Sized}
+use Rattle.canvas.specs.Plot.{Plot, Fate, landed, outside, clipped, fate, hitOf}
 use Rattle.canvas.specs.Walk.{plus, Work, work, act, drawn, Fits, Ready, Did}
-use Rattle.canvas.proofs.bytes.Pixels.{length-store, sized-length}
+use Rattle.pixels.proofs.bytes.Pixels.{sized-length}
+use Rattle.pixels.proofs.Hits.{touch-length}
 
 -- ---- one plot
 
@@ -30,10 +31,6 @@ drawn-append v c [] qs w = refl
 drawn-append v c (p ∷ ps) qs w = drawn-append v c ps qs (act v p (fate v c p) w)
 
 -- the length of the bytes is kept
-pub touch-length : (v : Canvas) (b : List ℕ) (h : Hit) → length (touch v b h) ≡ length b
-unfolding touch
-touch-length v b h = length-store v b (h .x) (h .y) _
-
 act-length : (v : Canvas) (p : Plot) (f : Fate) (w : Work) → length (act v p f w .bytes) ≡ length (w .bytes)
 act-length v p landed w = touch-length v (w .bytes) (hitOf p)
 act-length v p outside w = refl

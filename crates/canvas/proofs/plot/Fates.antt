@@ -1,15 +1,16 @@
 -- The fate of a plot, from what the code tests.
-use mathlib.Core.Path.{_≡_, refl}
+use mathlib.Core.Path.{_≡_, refl, sym, _∙_}
 use mathlib.Core.Bool.{Bool, true, false, cond}
 use Prim.Native.Nat.{ℕ, _+_, _-_, _≤_, _<_}
 use native.Mathlib.Omega.{arith}
+use native.Mathlib.Decide.{decLt}
 use native.Mathlib.Nat.{zero-add}
 use borrow.Author.Tests.{lt-ltb, le-ltb, ltb-true}
 use lib.Dec.{leb, ltb, leb·zero}
 use lib.IntN.{ℤ, pos, negsuc, natAbs}
-use Rattle.canvas.specs.declared.Canvas.{Canvas}
+use Rattle.pixels.specs.declared.Canvas.{Canvas}
 use Rattle.canvas.specs.declared.Clip.{Clip}
-use Rattle.canvas.specs.Bytes.{On}
+use Rattle.pixels.specs.Bytes.{On}
 use Rattle.canvas.specs.Clip.{both, within, inClip}
 use Rattle.canvas.specs.Plot.{Plot, plot, onCanvas, landed, outside, clipped, judge, fate}
 use Rattle.canvas.specs.Walk.{lowered}
@@ -30,6 +31,14 @@ pub side-minus : (n x : ℕ) → within (pos 0) n (negsuc x) ≡ false
 unfolding within
 side-minus n x = refl
 
+-- the two tests of a lifted number
+pub side-before : (n p : ℕ) → p < 2147483648 → false ≡ within (pos 0) n (lowered p)
+side-before n p h = sym (rw (lowered-neg p h) (side-minus n (2147483647 - p)))
+
+pub side-tests : (n p : ℕ) → 2147483648 ≤ p → ltb (p - 2147483648) n ≡ within (pos 0) n (lowered p)
+unfolding within
+side-tests n p h = rw (lowered-pos p h, leb·zero (p - 2147483648), zero-add n) refl
+
 pub on-canvas : (v : Canvas) (x y : ℕ) → x < v .width → y < v .height → onCanvas v (pos x) (pos y) ≡ true
 unfolding onCanvas
 on-canvas v x y hx hy = rw (side-yes (v .width) x hx, side-yes (v .height) y hy) refl
@@ -41,20 +50,6 @@ off-across v x y e = rw e refl
 pub off-down : (v : Canvas) (x y : ℤ) → within (pos 0) (v .height) y ≡ false → onCanvas v x y ≡ false
 unfolding onCanvas
 off-down v x y e = rw e (both-no (within (pos 0) (v .width) x))
-
--- what the tests of a lifted point say
-module _ (v : Canvas) (p q : ℕ) where
-  pub off-left : p < 2147483648 → onCanvas v (lowered p) (lowered q) ≡ false
-  off-left h = off-across v _ _ (rw (lowered-neg p h) (side-minus (v .width) (2147483647 - p)))
-
-  pub off-above : q < 2147483648 → onCanvas v (lowered p) (lowered q) ≡ false
-  off-above h = off-down v _ _ (rw (lowered-neg q h) (side-minus (v .height) (2147483647 - q)))
-
-  pub off-right : 2147483648 ≤ p → v .width ≤ p - 2147483648 → onCanvas v (lowered p) (lowered q) ≡ false
-  off-right l h = off-across v _ _ (rw (lowered-pos p l) (side-past (v .width) (p - 2147483648) h))
-
-  pub off-below : 2147483648 ≤ q → v .height ≤ q - 2147483648 → onCanvas v (lowered p) (lowered q) ≡ false
-  off-below l h = off-down v _ _ (rw (lowered-pos q l) (side-past (v .height) (q - 2147483648) h))
 
 -- ---- the fates
 
@@ -94,3 +89,30 @@ lands-on v c p e =
       across = side-in (v .width) (p .x) (both-left (within (pos 0) (v .width) (p .x)) (within (pos 0) (v .height) (p .y)) o);
       down = side-in (v .height) (p .y) (both-right (within (pos 0) (v .width) (p .x)) (within (pos 0) (v .height) (p .y)) o);
     }
+
+-- ---- a lifted point of the canvas
+
+lifted-side : (n p : ℕ) → within (pos 0) n (lowered p) ≡ true → (2147483648 ≤ p) × (p - 2147483648 < n)
+lifted-side n p e = go (decLt p 2147483648)
+  where
+    go : Dec (p < 2147483648) → (2147483648 ≤ p) × (p - 2147483648 < n)
+    go (yes h) = absurd (let f : false ≡ true = side-before n p h ∙ e in let z : _≡_ {A = ℕ} 0 1 = cc in omega arith)
+    go (no h) = (omega arith, ltb-true (p - 2147483648) n (side-tests n p (omega arith) ∙ e))
+
+pub record Lifted (v : Canvas) (p q : ℕ) : Type 0 where
+  pub left : 2147483648 ≤ p
+  pub top : 2147483648 ≤ q
+  pub on : On v (p - 2147483648) (q - 2147483648)
+
+module _ (v : Canvas) (p q : ℕ) (o : onCanvas v (lowered p) (lowered q) ≡ true) where
+  pub lifted-on : Lifted v p q
+  unfolding onCanvas
+  lifted-on =
+      let a = lifted-side (v .width) p (both-left (within (pos 0) (v .width) (lowered p)) (within (pos 0) (v .height) (lowered q)) o) in
+      let b = lifted-side (v .height) q (both-right (within (pos 0) (v .width) (lowered p)) (within (pos 0) (v .height) (lowered q)) o) in
+      record { left = a .0; top = b .0; on = record { across = a .1; down = b .1 } }
+
+  pub lifted-fate : (c : Clip) (f : ℕ → ℕ) (r : Bool) → r ≡ inClip c (pos (p - 2147483648)) (pos (q - 2147483648))
+      → fate v c (plot f (lowered p) (lowered q)) ≡ cond r landed clipped
+  lifted-fate c f r e =
+      is-inside v c (lowered p) (lowered q) f r o (rw (lowered-pos p (lifted-on .left), lowered-pos q (lifted-on .top)) e)

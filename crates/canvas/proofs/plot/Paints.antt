@@ -7,15 +7,17 @@ use native.Mathlib.Omega.{arith}
 use lib.IntN.{natAbs}
 use lib.ListN.{length}
 use Rattle.words.specs.Format.{range}
-use Rattle.canvas.specs.declared.Canvas.{Canvas}
+use Rattle.pixels.specs.declared.Canvas.{Canvas}
 use Rattle.canvas.specs.declared.Clip.{Clip}
 use Rattle.canvas.specs.declared.Tally.{Tally}
-use Rattle.canvas.specs.Bytes.{Cell, get, form, loadAt, storeAt, On}
-use Rattle.canvas.specs.Plot.{Point, Plot, plot, inks, Fate, landed, outside, clipped, fate, Hit, hit, hitOf, keep, hits, touch, paint}
+use Rattle.pixels.specs.Bytes.{Cell, get, form, On}
+use Rattle.canvas.specs.Plot.{Point, Plot, plot, inks, Fate, landed, outside, clipped, fate, hitOf, keep, hits}
+use Rattle.pixels.specs.Hits.{Hit, touch, paint}
 use Rattle.canvas.specs.Walk.{Work, work, act, drawn}
-use Rattle.canvas.proofs.bytes.Cells.{Bytes}
+use Rattle.pixels.proofs.bytes.Cells.{Bytes}
 use Rattle.canvas.proofs.plot.Fates.{lands-on}
-use Rattle.canvas.proofs.bytes.Pixels.{bytes-store, load-lt, Free, get-store}
+use Rattle.pixels.proofs.bytes.Pixels.{Free, get-store}
+use Rattle.pixels.proofs.Hits.{touch-ink, touch-bytes}
 
 abbrev tally : ℕ → Tally
 tally n = record { landed = n }
@@ -41,14 +43,6 @@ drawn-is v c (p ∷ ps) w =
     (act-paints v p (fate v c p) (hits v c ps) w) (act-counts v p (fate v c p) (hits v c ps) w)
 
 -- ---- inks that agree on words
-
-pub touch-ink : (v : Canvas) (b : List ℕ) (x y : ℕ) (f g : ℕ → ℕ) → Bytes b → ((w : ℕ) → w < range (form v) → f w ≡ g w) → touch v b (hit f x y) ≡ touch v b (hit g x y)
-unfolding touch
-touch-ink v b x y f g h e = ap (storeAt v b x y) (e (loadAt v b x y) (load-lt v b x y h))
-
-pub touch-bytes : (v : Canvas) (b : List ℕ) (h : Hit) → Bytes b → Bytes (touch v b h)
-unfolding touch
-touch-bytes v b h o = bytes-store v b (h .x) (h .y) _ o
 
 act-bytes : (v : Canvas) (p : Plot) (f : Fate) (w : Work) → Bytes (w .bytes) → Bytes (act v p f w .bytes)
 act-bytes v p landed w h = touch-bytes v (w .bytes) (hitOf p) h

@@ -35,6 +35,12 @@ lift-is x u s e = rw (toZ-ofZ w32 x s) at e
 pub lowers : (x : ℤ) (u : ℕ) → SFits w32 x → u ≡ lifted (toZ w32 (ofZ w32 x)) → lowered u ≡ x
 lowers x u s e = ap lowered (lift-is x u s e) ∙ lower-lift x s
 
+pub lift-lt : (x : ℤ) (u : ℕ) → SFits w32 x → u ≡ lifted (toZ w32 (ofZ w32 x)) → u < 4294967296
+lift-lt x u s e = rw (lift-is x u s e) (lifted-lt x s)
+
+pub lift-below : (x : ℤ) (u : ℕ) → SFits w32 x → u ≡ lifted (toZ w32 (ofZ w32 x)) → u < 17179869184
+lift-below x u s e = omega (arith, lift-lt x u s e)
+
 -- a lifted number below the zero, and one that is not
 pub lowered-neg : (p : ℕ) → p < 2147483648 → lowered p ≡ negsuc (2147483647 - p)
 unfolding lowered

@@ -16,7 +16,8 @@ use mir.ValLaws.{toZ-ofZ}
 use Rattle.canvas.specs.declared.Clip.{Clip}
 use Rattle.canvas.specs.Clip.{both, within, inClip}
 use Rattle.canvas.specs.Boxes.{select}
-use Rattle.canvas.specs.Walk.{lifted, lowered, run, Holds, Cut}
+use Rattle.canvas.specs.Walk.{lifted, lowered, Holds, Cut}
+use Rattle.pixels.specs.Rows.{run}
 use Rattle.canvas.proofs.span.Lifts.{lift-is, lower-lift, lowers, lowered-neg, lowered-pos}
 
 pub both-no : (t : Bool) → both t false ≡ false

@@ -1,7 +1,7 @@
 -- Shapes drawn one after the other: their plots, how many they are, and the room for them.
-use mathlib.Core.Path.{_≡_, refl, ap, _∙_}
-use mathlib.Core.Bool.{true, false}
-use mathlib.Core.List.{List, _++_}
+use mathlib.Core.Path.{_≡_, refl, sym, ap}
+use mathlib.Core.Bool.{Bool, true, false, not}
+use mathlib.Core.List.{List, _++_, append-assoc}
 use Prim.Native.Nat.{ℕ, suc, _+_, _*_, _-_, _≤_, _<_, max}
 use native.Mathlib.Omega.{arith}
 use native.Mathlib.Nat.{min-le-right}
@@ -13,24 +13,31 @@ use Rattle.number.specs.Degrees.{radiansOf}
 use Rattle.angle.specs.Stroke.{radians}
 use Rattle.curves.specs.declared.corners.Corners.{Corners}
 use Rattle.curves.specs.Strokes.{stepsOf}
-use Rattle.curves.specs.Corners.{cornerOf}
-use Rattle.canvas.specs.declared.Canvas.{Canvas}
+use Rattle.curves.specs.Corners.{insetOf, cornerOf}
+use Rattle.pixels.specs.declared.Canvas.{Canvas}
 use Rattle.canvas.specs.declared.Clip.{Clip}
 use Rattle.canvas.specs.declared.Tally.{Tally}
-use Rattle.canvas.specs.Faults.{Sized}
+use Rattle.pixels.specs.Bytes.{Sized}
 use Rattle.canvas.specs.Plot.{Point, Plot, inks}
 use Rattle.canvas.specs.Boxes.{fill}
 use Rattle.canvas.specs.Strokes.{stroke, edges, quarters}
-use Rattle.canvas.specs.Walk.{lowered, Work, work, Ready, Did}
-use Rattle.canvas.proofs.plot.Draws.{did-append, did-length, drawn-grows}
+use Rattle.canvas.specs.Walk.{lowered, Work, work, half, Ready, Did}
+use Rattle.canvas.proofs.plot.Draws.{did-append, did-length, drawn-grows, ready-front, ready-back}
 use Rattle.canvas.proofs.plot.Paints.{inks-length}
-use Rattle.canvas.proofs.bytes.Pixels.{sized-length}
+use Rattle.pixels.proofs.bytes.Pixels.{sized-length}
 use Rattle.canvas.proofs.boxes.Boxes.{inks-append, fill-le}
 use Rattle.canvas.proofs.boxes.Outline.{lowered-add}
 use Rattle.canvas.proofs.strokes.Stroking.{from-length, few-steps}
 
 pub then : {v : Canvas} {c : Clip} (f : ℕ → ℕ) (ps qs : List Point) {w w′ w″ : Work} → Did v c (inks f ps) w w′ → Did v c (inks f qs) w′ w″ → Did v c (inks f (ps ++ qs)) w w″
 then f ps qs d e = rw (inks-append f ps qs) (did-append (inks f ps) (inks f qs) d e)
+
+-- what the first of two shapes may count on, and the second after it
+pub ready-first : {v : Canvas} {c : Clip} (f : ℕ → ℕ) (ps qs : List Point) {w : Work} → Ready v c (inks f (ps ++ qs)) w → Ready v c (inks f ps) w
+ready-first f ps qs r = ready-front (inks f ps) (inks f qs) (rw (inks-append f ps qs) at r)
+
+pub ready-then : {v : Canvas} {c : Clip} (f : ℕ → ℕ) (ps qs : List Point) {w w′ : Work} → Did v c (inks f ps) w w′ → Ready v c (inks f (ps ++ qs)) w → Ready v c (inks f qs) w′
+ready-then f ps qs d r = ready-back d (rw (inks-append f ps qs) at r)
 
 -- at most so many more have landed
 pub did-le : {v : Canvas} {c : Clip} (f : ℕ → ℕ) (ps : List Point) {w w′ : Work} → Did v c (inks f ps) w w′ → w′ .tally .landed ≤ w .tally .landed + length ps
@@ -69,41 +76,53 @@ pub two-seventy : fin false 135 (pos 1) ≡ whole 270
 unfolding ofInt
 two-seventy = refl
 
-pub turned : (r x : Float) (n : ℕ) → r ≡ radiansOf x → x ≡ whole n → r ≡ radians (pos n)
-turned r x n e h = e ∙ ap radiansOf h
+module _ {v : Canvas} {c : Clip} (f : ℕ → ℕ) (k : Corners) where
+  -- two quarters, by the ovals and angles that the code works out
+  pub half-did : (low : Bool) (a b : Float) (o u : Oval) (x y q : Float) {w w1 w2 : Work} → o ≡ cornerOf k (not low) low → u ≡ cornerOf k low low → x ≡ a → y ≡ b → q ≡ radians (pos 90)
+      → Did v c (inks f (stroke v o x q)) w w1 → Did v c (inks f (stroke v u y q)) w1 w2 → Did v c (inks f (half v k low a b)) w w2
+  half-did low a b o u x y q eo eu ea eb eq d e =
+      then f (stroke v (cornerOf k (not low) low) a (radians (pos 90))) (stroke v (cornerOf k low low) b (radians (pos 90))) (rw (eo, ea, eq) at d) (rw (eu, eb, eq) at e)
 
-module _ {v : Canvas} {c : Clip} (f : ℕ → ℕ) where
-  pub stroked : {w w′ : Work} (o o′ : Oval) (a a′ q q′ : Float) → o ≡ o′ → a ≡ a′ → q ≡ q′ → Did v c (inks f (stroke v o a q)) w w′ → Did v c (inks f (stroke v o′ a′ q′)) w w′
-  stroked o o′ a a′ q q′ eo ea eq d = rw (eo, ea, eq) at d
+  pub half-le : (low : Bool) (a b : Float) {w w′ : Work} → v .width ≤ 32767 → v .height ≤ 32767 → Did v c (inks f (half v k low a b)) w w′ → w′ .tally .landed ≤ w .tally .landed + 2097090
+  half-le low a b l m d =
+      let s1 = stroke v (cornerOf k (not low) low) a (radians (pos 90)) in
+      let s2 = stroke v (cornerOf k low low) b (radians (pos 90)) in
+      omega (arith, did-le f (s1 ++ s2) d, length-append s1 s2, stroke-le v (cornerOf k (not low) low) a (radians (pos 90)) l m, stroke-le v (cornerOf k low low) b (radians (pos 90)) l m)
 
-  pub four-quarters : (k : Corners) {w w1 w2 w3 w4 : Work}
-      → Did v c (inks f (stroke v (cornerOf k true false) (radians (pos 0)) (radians (pos 90)))) w w1 → Did v c (inks f (stroke v (cornerOf k false false) (radians (pos 90)) (radians (pos 90)))) w1 w2
-      → Did v c (inks f (stroke v (cornerOf k false true) (radians (pos 180)) (radians (pos 90)))) w2 w3 → Did v c (inks f (stroke v (cornerOf k true true) (radians (pos 270)) (radians (pos 90)))) w3 w4
-      → Did v c (inks f (quarters v k)) w w4
+  pub quarters-did : (x0 x1 x2 x3 : Float) {w w1 w2 : Work} → x0 ≡ whole 0 → x1 ≡ whole 90 → x2 ≡ whole 180 → x3 ≡ whole 270
+      → Did v c (inks f (half v k false (radiansOf x0) (radiansOf x1))) w w1 → Did v c (inks f (half v k true (radiansOf x2) (radiansOf x3))) w1 w2 → Did v c (inks f (quarters v k)) w w2
   unfolding quarters
-  four-quarters k d1 d2 d3 d4 =
+  quarters-did x0 x1 x2 x3 e0 e1 e2 e3 d e =
       let q = radians (pos 90) in
       let s1 = stroke v (cornerOf k true false) (radians (pos 0)) q in
       let s2 = stroke v (cornerOf k false false) (radians (pos 90)) q in
       let s3 = stroke v (cornerOf k false true) (radians (pos 180)) q in
       let s4 = stroke v (cornerOf k true true) (radians (pos 270)) q in
-      then f s1 (s2 ++ (s3 ++ s4)) d1 (then f s2 (s3 ++ s4) d2 (then f s3 s4 d3 d4))
+      rw (← append-assoc s1 s2 (s3 ++ s4)) (then f (s1 ++ s2) (s3 ++ s4) (rw (e0, e1) at d) (rw (e2, e3) at e))
 
--- ---- the four edges
+-- ---- the four edges, two and two
 
-module _ {v : Canvas} {c : Clip} (f : ℕ → ℕ) (p q w h rx ry : ℕ) where
-  pub four-edges : (l m : ℕ) → l ≡ w - 2 * rx → m ≡ h - 2 * ry → {a a1 a2 a3 a4 : Work}
-      → Did v c (inks f (fill v (lowered (p + rx)) (lowered q) l 1)) a a1 → Did v c (inks f (fill v (lowered (p + rx)) (lowered (q + (h - 1))) l 1)) a1 a2
-      → Did v c (inks f (fill v (lowered p) (lowered (q + ry)) 1 m)) a2 a3 → Did v c (inks f (fill v (lowered (p + (w - 1))) (lowered (q + ry)) 1 m)) a3 a4
-      → Did v c (inks f (edges v (lowered p) (lowered q) w h rx ry)) a a4
+module _ (v : Canvas) (c : Clip) (f : ℕ → ℕ) (p q w h rx ry l m : ℕ) (el : l ≡ w - 2 * rx) (em : m ≡ h - 2 * ry) where
+  abbrev rows : List Point
+  rows = fill v (lowered (p + rx)) (lowered q) l 1 ++ fill v (lowered (p + rx)) (lowered (q + (h - 1))) l 1
+
+  abbrev columns : List Point
+  columns = fill v (lowered p) (lowered (q + ry)) 1 m ++ fill v (lowered (p + (w - 1))) (lowered (q + ry)) 1 m
+
+  edges-are : edges v (lowered p) (lowered q) w h rx ry ≡ rows ++ columns
   unfolding edges
-  four-edges l m el em d1 d2 d3 d4 =
-      let f1 = fill v (lowered (p + rx)) (lowered q) (w - 2 * rx) 1 in
-      let f2 = fill v (lowered (p + rx)) (lowered (q + (h - 1))) (w - 2 * rx) 1 in
-      let f3 = fill v (lowered p) (lowered (q + ry)) 1 (h - 2 * ry) in
-      let f4 = fill v (lowered (p + (w - 1))) (lowered (q + ry)) 1 (h - 2 * ry) in
-      rw (lowered-add p rx, lowered-add q (h - 1), lowered-add q ry, lowered-add p (w - 1))
-      (then f f1 (f2 ++ (f3 ++ f4)) (rw el at d1) (then f f2 (f3 ++ f4) (rw el at d2) (then f f3 f4 (rw em at d3) (rw em at d4))))
+  edges-are =
+      rw (lowered-add p rx, lowered-add q (h - 1), lowered-add q ry, lowered-add p (w - 1), ← el, ← em)
+      (sym (append-assoc (fill v (lowered (p + rx)) (lowered q) l 1) (fill v (lowered (p + rx)) (lowered (q + (h - 1))) l 1) columns))
+
+  pub rows-ready : {a : Work} → Ready v c (inks f (edges v (lowered p) (lowered q) w h rx ry)) a → Ready v c (inks f rows) a
+  rows-ready r = ready-first f rows columns (rw edges-are at r)
+
+  pub columns-ready : {a a1 : Work} → Did v c (inks f rows) a a1 → Ready v c (inks f (edges v (lowered p) (lowered q) w h rx ry)) a → Ready v c (inks f columns) a1
+  columns-ready d r = ready-then f rows columns d (rw edges-are at r)
+
+  pub edges-did : {a a1 a2 : Work} → Did v c (inks f rows) a a1 → Did v c (inks f columns) a1 a2 → Did v c (inks f (edges v (lowered p) (lowered q) w h rx ry)) a a2
+  edges-did d e = rw edges-are (then f rows columns d e)
 
 pub edges-le : (v : Canvas) (x y : ℤ) (w h rx ry : ℕ) → v .width ≤ 32767 → v .height ≤ 32767 → length (edges v x y w h rx ry) ≤ 4294705156
 unfolding edges
@@ -122,3 +141,8 @@ edges-le v x y w h rx ry hw hh =
       fill-le v x (y +ℤ pos ry) 1 (h - 2 * ry) hw hh,
       fill-le v (x +ℤ pos (w - 1)) (y +ℤ pos ry) 1 (h - 2 * ry) hw hh,
     )
+
+-- edges, and then quarters
+pub rim-did : {v : Canvas} {c : Clip} (f : ℕ → ℕ) (k : Corners) (x y : ℤ) (w h rx ry : ℕ) {a a1 a2 : Work} → rx ≡ insetOf (k .rx) → ry ≡ insetOf (k .ry)
+    → Did v c (inks f (edges v x y w h rx ry)) a a1 → Did v c (inks f (quarters v k)) a1 a2 → Did v c (inks f (edges v x y w h (insetOf (k .rx)) (insetOf (k .ry)) ++ quarters v k)) a a2
+rim-did {v} f k x y w h rx ry ex ey d e = then f (edges v x y w h (insetOf (k .rx)) (insetOf (k .ry))) (quarters v k) (rw (ex, ey) at d) e

@@ -14,9 +14,9 @@ use Rattle.angle.proofs.sine.Reduction.{at-reduced}
 use Rattle.curves.specs.declared.ovals.Oval.{Oval}
 use Rattle.curves.specs.declared.strokes.Spot.{Spot}
 use Rattle.curves.specs.Strokes.{stepsOf, spotOf, strokePoint}
-use Rattle.canvas.specs.declared.Canvas.{Canvas}
+use Rattle.pixels.specs.declared.Canvas.{Canvas}
 use Rattle.canvas.specs.declared.Clip.{Clip}
-use Rattle.canvas.specs.declared.span.Span.{Span}
+use Rattle.pixels.specs.declared.rows.Span.{Span}
 use Rattle.canvas.specs.Plot.{at, inks}
 use Rattle.canvas.specs.Strokes.{pointOf, strokeFrom, stroke}
 use Rattle.canvas.specs.Walk.{lifted, lowered, Work, Did, dabbed, dabs, Window}

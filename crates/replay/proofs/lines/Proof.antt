@@ -8,16 +8,16 @@ use Rattle.replay.proofs.lines.Statement.{statement}
 use Rattle.replay.proofs.lines.Tie as tie
 
 abbrev Inv-loop : tie.InvT-loop
-Inv-loop text bytes₀ image₀ out₀ from used at₀ u₀ end₀ bytes image out at u end = (length bytes ≡ length bytes₀) × (length image ≡ length image₀) × (length out ≡ length out₀) × (at ≤ end) × (end ≤ length text) × (u ≤ length out₀)
+Inv-loop text bytes₀ image₀ out₀ used at₀ u₀ end₀ bytes image out at u end = (length bytes ≡ length bytes₀) × (length image ≡ length image₀) × (length out ≡ length out₀) × (at ≤ end) × (end ≤ length text) × (u ≤ length out₀)
 
 abbrev μ-loop : tie.MeasureT-loop
-μ-loop text bytes₀ image₀ out₀ from used at₀ u₀ end₀ bytes image out at u end = length text - end
+μ-loop text bytes₀ image₀ out₀ used at₀ u₀ end₀ bytes image out at u end = length text - end
 
 line-end-requires : tie.Need-line-end-requires Inv-loop μ-loop
 line-end-requires c κs = search needs
 
 loop-holds : tie.Need-loop-holds Inv-loop μ-loop
-loop-holds c = (refl, refl, refl, c .line-end .ensures .0, c .line-end .ensures .1, c .before .before .before .before .before .pre .1)
+loop-holds c = (refl, refl, refl, c .line-end .ensures .0, c .line-end .ensures .1, c .before .before .before .before .before .pre)
 
 sub-step : tie.Need-sub-step Inv-loop μ-loop
 sub-step c = omega arith

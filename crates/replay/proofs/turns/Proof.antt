@@ -8,13 +8,16 @@ use Rattle.replay.proofs.turns.Statement.{statement}
 use Rattle.replay.proofs.turns.Tie as tie
 
 abbrev Inv-loop : tie.InvT-loop
-Inv-loop text₀ bytes₀ image₀ out₀ s₀ left₀ text bytes image out s left = (length text ≡ length text₀) × (length bytes ≡ length bytes₀) × (length image ≡ length image₀) × (length out ≡ length out₀) × (s .held ≤ 65536) × (s .used ≤ length out₀)
+Inv-loop text₀ bytes₀ image₀ out₀ s₀ left₀ text bytes image out s left = (length text ≡ length text₀) × (length bytes ≡ length bytes₀) × (length image ≡ length image₀) × (length out ≡ length out₀) × (s .held ≤ 65537) × (s .used ≤ length out₀)
 
 abbrev μ-loop : tie.MeasureT-loop
 μ-loop text₀ bytes₀ image₀ out₀ s₀ left₀ text bytes image out s left = left
 
 loop-holds : tie.Need-loop-holds Inv-loop μ-loop
 loop-holds c = (refl, refl, refl, refl, omega arith, omega arith)
+
+fetch-requires : tie.Need-fetch-requires Inv-loop μ-loop
+fetch-requires c κs = search needs
 
 same-length : tie.Need-same-length Inv-loop μ-loop
 same-length c = omega arith
@@ -31,8 +34,11 @@ same-length-4 c = omega arith
 returns : tie.Need-returns Inv-loop μ-loop
 returns c = omega arith
 
-turn-requires : tie.Need-turn-requires Inv-loop μ-loop
-turn-requires c κs = search needs
+add-keep : tie.Need-add-keep Inv-loop μ-loop
+add-keep c = search needs
+
+keep-requires : tie.Need-keep-requires Inv-loop μ-loop
+keep-requires c κs = search needs
 
 sub-left : tie.Need-sub-left Inv-loop μ-loop
 sub-left c = search needs
@@ -42,9 +48,9 @@ loop-less c = omega arith
 
 loop-again : tie.Need-loop-again Inv-loop μ-loop
 loop-again c =
-    let turn = c .before .before .before .before .before .before .before .before .turn in
-    let l = c .before .before .before .before .before .before .before .before .before .before .before .before .before .before .before .before .loop in
-    (turn .kept .1 .0 ∙ l .inv .0, turn .kept .1 .1 .0 ∙ l .inv .1, turn .kept .1 .1 .1 .0 ∙ l .inv .2, turn .kept .1 .1 .1 .1 .0 ∙ l .inv .3, turn .ensures .0, omega (arith, turn .ensures .1))
+    let keep = c .before .before .before .before .before .before .before .before .keep in
+    let l = c .before .before .before .before .before .before .before .before .before .before .before .before .before .before .before .before .before .before .before .before .loop in
+    (keep .kept .0 ∙ c .before .before .before .before .before .before .before .before .before .before .before .before .before .before .before .before .before .fetch .kept .0 ∙ l .inv .0, keep .kept .1 .0 ∙ l .inv .1, keep .kept .1 .1 .0 ∙ l .inv .2, keep .kept .1 .1 .1 .0 ∙ l .inv .3, keep .ensures .0, omega (arith, keep .ensures .1))
 
 same-length-5 : tie.Need-same-length-5 Inv-loop μ-loop
 same-length-5 c = omega arith
@@ -68,12 +74,14 @@ turns-spec =
     Inv-loop
     μ-loop
     loop-holds
+    fetch-requires
     same-length
     same-length-2
     same-length-3
     same-length-4
     returns
-    turn-requires
+    add-keep
+    keep-requires
     sub-left
     loop-less
     loop-again

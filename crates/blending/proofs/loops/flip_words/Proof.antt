@@ -13,48 +13,48 @@ use Rattle.blending.proofs.loops.flip_words.Tie as tie
 here : {n m : ℕ} (cs ws : List ℕ) → n ≡ m → blended (formatOf m) true cs ws ≡ blended (formatOf n) true cs ws
 here cs ws e = rw e
 
-flips332-requires : tie.Need-flips332-requires
-flips332-requires c κs = search needs
+flips-requires : tie.Need-flips-requires
+flips-requires c κs = search needs
 
-flips565-requires : tie.Need-flips565-requires
-flips565-requires c κs = search needs
+flips-requires-2 : tie.Need-flips-requires-2
+flips-requires-2 c κs = search needs
 
-flips-rgb8-requires : tie.Need-flips-rgb8-requires
-flips-rgb8-requires c κs = search needs
+flips-requires-3 : tie.Need-flips-requires-3
+flips-requires-3 c κs = search needs
 
-flips-argb-requires : tie.Need-flips-argb-requires
-flips-argb-requires c κs = search needs
+flips-requires-4 : tie.Need-flips-requires-4
+flips-requires-4 c κs = search needs
 
-flips-abgr-requires : tie.Need-flips-abgr-requires
-flips-abgr-requires c κs = search needs
+flips-requires-5 : tie.Need-flips-requires-5
+flips-requires-5 c κs = search needs
 
 same-length : tie.Need-same-length
 same-length c = search needs
 
 returns : tie.Need-returns
 unfolding formatOf
-returns c = let a = c .before .before .before .before .before .before .before .args in c .before .before .flips332 .ensures ∙ here (a .colors .now) (a .words .now) (c .before .before .before .before .match .keys1)
+returns c = let a = c .before .before .before .before .before .before .before .args in c .before .before .flips .ensures ∙ here (a .colors .now) (a .words .now) (c .before .before .before .before .match .keys1)
 
 same-length-2 : tie.Need-same-length-2
 same-length-2 c = search needs
 
 returns-2 : tie.Need-returns-2
 unfolding formatOf
-returns-2 c = let a = c .before .before .before .before .before .before .before .args in c .before .before .flips565 .ensures ∙ here (a .colors .now) (a .words .now) (c .before .before .before .before .match .keys2)
+returns-2 c = let a = c .before .before .before .before .before .before .before .args in c .before .before .flips2 .ensures ∙ here (a .colors .now) (a .words .now) (c .before .before .before .before .match .keys2)
 
 same-length-3 : tie.Need-same-length-3
 same-length-3 c = search needs
 
 returns-3 : tie.Need-returns-3
 unfolding formatOf
-returns-3 c = let a = c .before .before .before .before .before .before .before .args in c .before .before .flips-rgb8 .ensures ∙ here (a .colors .now) (a .words .now) (c .before .before .before .before .match .keys3)
+returns-3 c = let a = c .before .before .before .before .before .before .before .args in c .before .before .flips3 .ensures ∙ here (a .colors .now) (a .words .now) (c .before .before .before .before .match .keys3)
 
 same-length-4 : tie.Need-same-length-4
 same-length-4 c = search needs
 
 returns-4 : tie.Need-returns-4
 unfolding formatOf
-returns-4 c = let a = c .before .before .before .before .before .before .before .args in c .before .before .flips-argb .ensures ∙ here (a .colors .now) (a .words .now) (c .before .before .before .before .match .keys4)
+returns-4 c = let a = c .before .before .before .before .before .before .before .args in c .before .before .flips4 .ensures ∙ here (a .colors .now) (a .words .now) (c .before .before .before .before .match .keys4)
 
 same-length-5 : tie.Need-same-length-5
 same-length-5 c = search needs
@@ -64,17 +64,17 @@ unfolding formatOf
 returns-5 c =
     let a = c .before .before .before .before .before .before .before .args in
     let e : a .format ≡ 4 = omega arith in
-    c .before .before .flips-abgr .ensures ∙ here (a .colors .now) (a .words .now) e
+    c .before .before .flips5 .ensures ∙ here (a .colors .now) (a .words .now) e
 
 pub flip-words-spec : {M : Type 1} → statement M
 flip-words-spec =
     tie.close
     (tie.spec
-    flips332-requires
-    flips565-requires
-    flips-rgb8-requires
-    flips-argb-requires
-    flips-abgr-requires
+    flips-requires
+    flips-requires-2
+    flips-requires-3
+    flips-requires-4
+    flips-requires-5
     same-length
     returns
     same-length-2

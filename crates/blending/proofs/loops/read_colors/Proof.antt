@@ -1,78 +1,75 @@
--- `read_colors` takes its format's loop; an ARGB word is read as it is.
-use mathlib.Core.Path.{_≡_, sym, _∙_}
-use mathlib.Core.List.{List}
-use Prim.Native.Nat.{ℕ}
+-- `read_colors` makes one word after another.
+use mathlib.Core.Path.{_∙_}
+use Prim.Native.Nat.{_-_}
 use native.Mathlib.Omega.{arith}
-use Rattle.words.specs.Format.{formatOf}
-use Rattle.blending.specs.Loops.{argbOf}
-use Rattle.blending.proofs.Runs.{argb-itself}
+use lib.ListN.{length}
 use borrow.Author.Needs.{needs}
+use Rattle.words.specs.Format.{formatOf}
+use Rattle.blending.proofs.Runs.{Made, make-first, make-more, made-all, reading, read-all}
 use Rattle.blending.proofs.loops.read_colors.Statement.{statement}
 use Rattle.blending.proofs.loops.read_colors.Tie as tie
 
-here : {n m : ℕ} (ws : List ℕ) → n ≡ m → argbOf (formatOf m) ws ≡ argbOf (formatOf n) ws
-here ws e = rw e
+abbrev Inv-loop : tie.InvT-loop
+Inv-loop format words₀ i₀ words i = Made (reading (formatOf format)) words₀ words₀ (length words₀) words i
 
-read332-requires : tie.Need-read332-requires
-read332-requires c κs = search needs
+abbrev μ-loop : tie.MeasureT-loop
+μ-loop format words₀ i₀ words i = length words₀ - i
 
-read565-requires : tie.Need-read565-requires
-read565-requires c κs = search needs
+loop-holds : tie.Need-loop-holds Inv-loop μ-loop
+loop-holds c = let a = c .before .args in let ws = a .words .now in make-first (reading (formatOf (a .format))) ws ws (length ws)
 
-read-rgb8-requires : tie.Need-read-rgb8-requires
-read-rgb8-requires c κs = search needs
+mul-argb-of : tie.Need-mul-argb-of Inv-loop μ-loop
+mul-argb-of c = omega arith
 
-read-abgr-requires : tie.Need-read-abgr-requires
-read-abgr-requires c κs = search needs
+slice-read-argb-of : tie.Need-slice-read-argb-of Inv-loop μ-loop
+slice-read-argb-of c = omega arith
 
-same-length : tie.Need-same-length
-same-length c = search needs
+argb-of-requires : tie.Need-argb-of-requires Inv-loop μ-loop
+argb-of-requires c κs = search needs
 
-returns : tie.Need-returns
-unfolding formatOf
-returns c = c .before .before .read332 .ensures ∙ here (c .before .before .before .before .before .before .args .words .now) (c .before .before .before .before .match .keys1)
+mul-words : tie.Need-mul-words Inv-loop μ-loop
+mul-words c = omega arith
 
-same-length-2 : tie.Need-same-length-2
-same-length-2 c = search needs
+slice-write-words : tie.Need-slice-write-words Inv-loop μ-loop
+slice-write-words c = omega arith
 
-returns-2 : tie.Need-returns-2
-unfolding formatOf
-returns-2 c = c .before .before .read565 .ensures ∙ here (c .before .before .before .before .before .before .args .words .now) (c .before .before .before .before .match .keys2)
+add-i : tie.Need-add-i Inv-loop μ-loop
+add-i c = omega arith
 
-same-length-3 : tie.Need-same-length-3
-same-length-3 c = search needs
+loop-less : tie.Need-loop-less Inv-loop μ-loop
+loop-less c = omega arith
 
-returns-3 : tie.Need-returns-3
-unfolding formatOf
-returns-3 c = c .before .before .read-rgb8 .ensures ∙ here (c .before .before .before .before .before .before .args .words .now) (c .before .before .before .before .match .keys3)
+loop-again : tie.Need-loop-again Inv-loop μ-loop
+loop-again c =
+    let a = c .before .before .before .before .before .args in
+    let ws = a .words .now in
+    let l = c .before .before .before .loop in
+    make-more (reading (formatOf (a .format))) ws ws (length ws) (l .words) (l .i) _ (omega arith) (omega arith) (omega arith) (l .inv) (c .argb-of .ensures)
 
-returns-4 : tie.Need-returns-4
-unfolding formatOf
-returns-4 c =
-    let ws = c .before .before .args .words .now in
-    sym (argb-itself ws (λ (i : ℕ). omega (arith, c .before .slice-known .given i))) ∙ here ws (c .match .keys4)
+same-length : tie.Need-same-length Inv-loop μ-loop
+same-length c = omega arith
 
-same-length-4 : tie.Need-same-length-4
-same-length-4 c = search needs
-
-returns-5 : tie.Need-returns-5
-unfolding formatOf
-returns-5 c = c .before .before .read-abgr .ensures ∙ here (c .before .before .before .before .before .before .args .words .now) (let e : c .before .before .before .before .before .before .args .format ≡ 4 = omega arith in e)
+returns : tie.Need-returns Inv-loop μ-loop
+returns c =
+    let a = c .before .before .before .args in
+    let ws = a .words .now in
+    let l = c .before .loop in
+    made-all (reading (formatOf (a .format))) ws ws (length ws) (l .words) (l .i) (omega arith) (omega arith) (l .inv) ∙ read-all (formatOf (a .format)) ws
 
 pub read-colors-spec : {M : Type 1} → statement M
 read-colors-spec =
     tie.close
     (tie.spec
-    read332-requires
-    read565-requires
-    read-rgb8-requires
-    read-abgr-requires
+    Inv-loop
+    μ-loop
+    loop-holds
+    mul-argb-of
+    slice-read-argb-of
+    argb-of-requires
+    mul-words
+    slice-write-words
+    add-i
+    loop-less
+    loop-again
     same-length
-    returns
-    same-length-2
-    returns-2
-    same-length-3
-    returns-3
-    returns-4
-    same-length-4
-    returns-5)
+    returns)

@@ -1,86 +1,80 @@
--- `store_words` takes its format's loop.
-use mathlib.Core.Path.{_≡_, _∙_}
-use mathlib.Core.List.{List}
-use Prim.Native.Nat.{ℕ}
+-- `store_words` makes one word after another.
+use Prim.Native.Nat.{_-_}
 use native.Mathlib.Omega.{arith}
-use Rattle.words.specs.Format.{formatOf}
-use Rattle.blending.specs.Loops.{stored}
 use borrow.Author.Needs.{needs}
+use Rattle.words.specs.Format.{formatOf}
+use Rattle.blending.specs.Loops.{store, stored}
+use Rattle.blending.proofs.Runs.{Made, make-first, make-more, made-all}
 use Rattle.blending.proofs.loops.store_words.Statement.{statement}
 use Rattle.blending.proofs.loops.store_words.Tie as tie
 
-here : {n m : ℕ} (cs ws : List ℕ) → n ≡ m → stored (formatOf m) cs ws ≡ stored (formatOf n) cs ws
-here cs ws e = rw e
+abbrev Inv-loop : tie.InvT-loop
+Inv-loop format colors words₀ n i₀ words i = Made (store (formatOf format)) colors words₀ n words i
 
-stores332-requires : tie.Need-stores332-requires
-stores332-requires c κs = search needs
+abbrev μ-loop : tie.MeasureT-loop
+μ-loop format colors words₀ n i₀ words i = n - i
 
-stores565-requires : tie.Need-stores565-requires
-stores565-requires c κs = search needs
+shorter-requires : tie.Need-shorter-requires Inv-loop μ-loop
+shorter-requires c κs = search needs
 
-stores-rgb8-requires : tie.Need-stores-rgb8-requires
-stores-rgb8-requires c κs = search needs
+loop-holds : tie.Need-loop-holds Inv-loop μ-loop
+loop-holds c = let a = c .before .before .before .args in make-first (store (formatOf (a .format))) (a .colors .now) (a .words .now) (c .shorter .result)
 
-stores-argb-requires : tie.Need-stores-argb-requires
-stores-argb-requires c κs = search needs
+mul-store : tie.Need-mul-store Inv-loop μ-loop
+mul-store c = omega arith
 
-stores-abgr-requires : tie.Need-stores-abgr-requires
-stores-abgr-requires c κs = search needs
+shared-slice-read-store : tie.Need-shared-slice-read-store Inv-loop μ-loop
+shared-slice-read-store c = omega arith
 
-same-length : tie.Need-same-length
-same-length c = search needs
+store-requires : tie.Need-store-requires Inv-loop μ-loop
+store-requires c κs = search needs
 
-returns : tie.Need-returns
-unfolding formatOf
-returns c = let a = c .before .before .before .before .before .before .before .args in c .before .before .stores332 .ensures ∙ here (a .colors .now) (a .words .now) (c .before .before .before .before .match .keys1)
+mul-words : tie.Need-mul-words Inv-loop μ-loop
+mul-words c = omega arith
 
-same-length-2 : tie.Need-same-length-2
-same-length-2 c = search needs
+slice-write-words : tie.Need-slice-write-words Inv-loop μ-loop
+slice-write-words c = omega arith
 
-returns-2 : tie.Need-returns-2
-unfolding formatOf
-returns-2 c = let a = c .before .before .before .before .before .before .before .args in c .before .before .stores565 .ensures ∙ here (a .colors .now) (a .words .now) (c .before .before .before .before .match .keys2)
+add-i : tie.Need-add-i Inv-loop μ-loop
+add-i c = omega arith
 
-same-length-3 : tie.Need-same-length-3
-same-length-3 c = search needs
+loop-less : tie.Need-loop-less Inv-loop μ-loop
+loop-less c = omega arith
 
-returns-3 : tie.Need-returns-3
-unfolding formatOf
-returns-3 c = let a = c .before .before .before .before .before .before .before .args in c .before .before .stores-rgb8 .ensures ∙ here (a .colors .now) (a .words .now) (c .before .before .before .before .match .keys3)
-
-same-length-4 : tie.Need-same-length-4
-same-length-4 c = search needs
-
-returns-4 : tie.Need-returns-4
-unfolding formatOf
-returns-4 c = let a = c .before .before .before .before .before .before .before .args in c .before .before .stores-argb .ensures ∙ here (a .colors .now) (a .words .now) (c .before .before .before .before .match .keys4)
-
-same-length-5 : tie.Need-same-length-5
-same-length-5 c = search needs
-
-returns-5 : tie.Need-returns-5
-unfolding formatOf
-returns-5 c =
+loop-again : tie.Need-loop-again Inv-loop μ-loop
+loop-again c =
     let a = c .before .before .before .before .before .before .before .args in
-    let e : a .format ≡ 4 = omega arith in
-    c .before .before .stores-abgr .ensures ∙ here (a .colors .now) (a .words .now) e
+    let n = c .before .before .before .before .shorter in
+    let l = c .before .before .before .loop in
+    make-more (store (formatOf (a .format))) (a .colors .now) (a .words .now) (n .result) (l .words) (l .i) _ (omega arith) (omega arith) (omega arith) (l .inv)
+    (c .store .ensures)
+
+same-length : tie.Need-same-length Inv-loop μ-loop
+same-length c = omega arith
+
+returns : tie.Need-returns Inv-loop μ-loop
+unfolding stored
+returns c =
+    let a = c .before .before .before .before .before .args in
+    let n = c .before .before .shorter in
+    let l = c .before .loop in
+    made-all (store (formatOf (a .format))) (a .colors .now) (a .words .now) (n .result) (l .words) (l .i) (n .ensures) (omega arith) (l .inv)
 
 pub store-words-spec : {M : Type 1} → statement M
 store-words-spec =
     tie.close
     (tie.spec
-    stores332-requires
-    stores565-requires
-    stores-rgb8-requires
-    stores-argb-requires
-    stores-abgr-requires
+    Inv-loop
+    μ-loop
+    shorter-requires
+    loop-holds
+    mul-store
+    shared-slice-read-store
+    store-requires
+    mul-words
+    slice-write-words
+    add-i
+    loop-less
+    loop-again
     same-length
-    returns
-    same-length-2
-    returns-2
-    same-length-3
-    returns-3
-    same-length-4
-    returns-4
-    same-length-5
-    returns-5)
+    returns)

@@ -3,8 +3,9 @@ use native.Mathlib.Omega.{arith}
 use Rattle.words.specs.Ink.{inked}
 use Rattle.canvas.specs.Plot.{inks}
 use Rattle.canvas.specs.Boxes.{fill}
-use Rattle.canvas.specs.Walk.{lowered, flat}
-use Rattle.canvas.proofs.bytes.Places.{area-le}
+use Rattle.canvas.specs.Walk.{lowered}
+use Rattle.pixels.specs.Rows.{flat}
+use Rattle.pixels.proofs.bytes.Places.{area-le}
 use Rattle.canvas.proofs.boxes.Boxes.{fill-hits, span-le, field-fits, field-did}
 use borrow.Author.Needs.{needs}
 use Rattle.canvas.proofs.boxes.fill_in.Statement.{statement}

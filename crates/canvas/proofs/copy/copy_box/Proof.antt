@@ -5,7 +5,7 @@ use Prim.Native.Nat.{_-_}
 use lib.Dec.{leb}
 use lib.ListN.{length}
 use borrow.Author.Needs.{needs}
-use Rattle.canvas.proofs.bytes.Pixels.{sized-length}
+use Rattle.pixels.proofs.bytes.Pixels.{sized-length}
 use Rattle.canvas.proofs.copy.Moves.{Rows, rows-sized, way-of, rows-none, rows-more, rows-all, part-at}
 use Rattle.canvas.proofs.copy.copy_box.Statement.{statement}
 use Rattle.canvas.proofs.copy.copy_box.Tie as tie

@@ -1,6 +1,7 @@
 -- All of the chunk is read before any of it is written.
 use Rattle.canvas.proofs.copy.Moves.{chunk-done}
 use borrow.Author.Needs.{needs}
+use Rattle.pixels.proofs.chunks.Chunks.{words-taken}
 use Rattle.canvas.proofs.copy.copy_chunk.Statement.{statement}
 use Rattle.canvas.proofs.copy.copy_chunk.Tie as tie
 
@@ -20,7 +21,7 @@ same-length-2 : tie.Need-same-length-2
 same-length-2 c = search needs
 
 returns : tie.Need-returns
-returns c = chunk-done (c .before .before .before .before .before .before .before .before .before .before .before .before .before .before .before .before .args .canvas) (c .before .before .before .before .before .before .before .before .before .before .before .before .before .before .before .before .args .b .now) _ (c .before .before .before .before .before .before .before .before .before .before .before .before .before .before .before .before .args .y) (c .before .before .before .before .before .before .before .before .before .before .before .before .before .before .before .before .args .x) (c .before .before .before .before .before .before .before .before .before .before .before .before .before .before .before .before .args .sy) (c .before .before .before .before .before .before .before .before .before .before .before .before .before .before .before .before .args .sx) _ _ _ (c .before .before .before .before .before .before .before .before .before .before .before .take .kept .1 .1 .1 .1 .0) (c .before .before .before .before .before .before .before .before .before .before .before .take .ensures) (c .before .before .before .before .before .before .before .see .ensures) (c .before .before .lay .ensures)
+returns c = chunk-done (c .before .before .before .before .before .before .before .before .before .before .before .before .before .before .before .before .args .canvas) (c .before .before .before .before .before .before .before .before .before .before .before .before .before .before .before .before .args .b .now) _ (c .before .before .before .before .before .before .before .before .before .before .before .before .before .before .before .before .args .y) (c .before .before .before .before .before .before .before .before .before .before .before .before .before .before .before .before .args .x) (c .before .before .before .before .before .before .before .before .before .before .before .before .before .before .before .before .args .sy) (c .before .before .before .before .before .before .before .before .before .before .before .before .before .before .before .before .args .sx) _ _ _ (c .before .before .before .before .before .before .before .before .before .before .before .take .kept .1 .1 .1 .1 .0) (words-taken _ _ _ _ _ (c .before .before .before .before .before .before .before .before .before .before .before .take .ensures)) (c .before .before .before .before .before .before .before .see .ensures) (c .before .before .lay .ensures)
 
 pub copy-chunk-spec : {M : Type 1} → statement M
 copy-chunk-spec =

@@ -4,7 +4,7 @@ use native.Mathlib.Nat.{mul-zero, zero-mul}
 use mathlib.Core.Path.{_≡_, refl, sym, ap, _∙_}
 use Prim.Native.Nat.{ℕ, _+_, _-_, _*_}
 use Rattle.canvas.specs.Walk.{shifted}
-use Rattle.canvas.proofs.bytes.Places.{area-le}
+use Rattle.pixels.proofs.bytes.Places.{area-le}
 use Rattle.canvas.proofs.copy.Moves.{none-across, none-down, paint-nothing, less-than}
 use Rattle.canvas.proofs.copy.copy_in.Statement.{statement}
 use Rattle.canvas.proofs.copy.copy_in.Tie as tie

@@ -6,9 +6,9 @@ use lib.Dec.{leb}
 use lib.ListN.{length}
 use lib.Seq.{length-take-le}
 use borrow.Author.Needs.{needs}
-use Rattle.canvas.proofs.bytes.Pixels.{sized-length}
+use Rattle.pixels.proofs.bytes.Pixels.{sized-length}
 use Rattle.canvas.proofs.copy.Moves.{Moved, moved-sized, way-of, row-none, row-more, row-all, part-at}
-use Rattle.canvas.proofs.chunks.Chunks.{prefix-kept, part-fits}
+use Rattle.canvas.proofs.copy.Chunked.{prefix-kept, part-fits}
 use Rattle.canvas.proofs.copy.copy_row.Statement.{statement}
 use Rattle.canvas.proofs.copy.copy_row.Tie as tie
 

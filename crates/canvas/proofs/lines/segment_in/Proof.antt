@@ -1,6 +1,6 @@
 -- The walk by the bytes of a word, in the window of canvas and clip.
 use mathlib.Core.Path.{sym}
-use Rattle.canvas.proofs.bytes.Places.{one-byte, two-bytes, four-bytes}
+use Rattle.pixels.proofs.bytes.Places.{one-byte, two-bytes, four-bytes}
 use Rattle.canvas.proofs.plot.Dabs.{window-fields}
 use Rattle.canvas.proofs.lines.Loops.{window-of, segment-goes, segment-did}
 use Rattle.words.specs.Ink.{inked}

@@ -6,7 +6,7 @@ use Rattle.words.specs.Ink.{inked}
 use lib.ListN.{length}
 use Rattle.canvas.specs.Walk.{Work, work}
 use Rattle.canvas.specs.Trail.{ahead, trail}
-use Rattle.canvas.proofs.bytes.Pixels.{sized-length}
+use Rattle.pixels.proofs.bytes.Pixels.{sized-length}
 use Rattle.canvas.proofs.plot.Dabs.{dabbed-length, dabbing-length}
 use Rattle.canvas.proofs.lines.Ways.{not-end, nearer}
 use Rattle.canvas.proofs.lines.Loops.{OnWay, way-start, way-room, way-turn, way-end}

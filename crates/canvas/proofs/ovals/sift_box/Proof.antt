@@ -3,7 +3,8 @@ use native.Mathlib.Omega.{arith}
 use Prim.Native.Nat.{_-_}
 use Rattle.words.specs.Ink.{inked}
 use Rattle.curves.specs.Regions.{takes}
-use Rattle.canvas.specs.Walk.{run, work}
+use Rattle.pixels.specs.Rows.{run}
+use Rattle.canvas.specs.Walk.{work}
 use Rattle.canvas.specs.Sift.{sifts}
 use Rattle.canvas.proofs.ovals.Sifts.{Going, left-start, left-length, left-sized, rows-room, rows-turn, rows-end}
 use Rattle.canvas.proofs.ovals.sift_box.Statement.{statement}

@@ -3,7 +3,7 @@ use mathlib.Core.Path.{sym, ap, _∙_}
 use mathlib.Core.Bool.{Bool}
 use borrow.Author.Tests.{not-true}
 use Rattle.blending.specs.Loops.{blended}
-use Rattle.canvas.specs.Bytes.{form}
+use Rattle.pixels.specs.Bytes.{form}
 use Rattle.canvas.proofs.pictures.Overlays.{solid-stores}
 use borrow.Author.Needs.{needs}
 use Rattle.canvas.proofs.pictures.compose.Statement.{statement}

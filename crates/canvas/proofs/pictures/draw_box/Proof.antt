@@ -3,9 +3,10 @@ use native.Mathlib.Omega.{arith}
 use mathlib.Core.Path.{_≡_, refl, sym, _∙_}
 use Prim.Native.Nat.{_-_, _≤_}
 use lib.ListN.{length}
-use Rattle.canvas.specs.Walk.{run, marks, field, overlaid}
-use Rattle.canvas.proofs.bytes.Pixels.{sized-length}
-use Rattle.canvas.proofs.rows.Rows.{Rest, rest-start, rest-length, rest-turn, rest-end}
+use Rattle.pixels.specs.Rows.{run, marks, field}
+use Rattle.canvas.specs.Walk.{overlaid}
+use Rattle.pixels.proofs.bytes.Pixels.{sized-length}
+use Rattle.pixels.proofs.rows.Rows.{Rest, rest-start, rest-length, rest-turn, rest-end}
 use Rattle.canvas.proofs.pictures.Overlays.{row-over}
 use Rattle.canvas.proofs.pictures.draw_box.Statement.{statement}
 use Rattle.canvas.proofs.pictures.draw_box.Tie as tie

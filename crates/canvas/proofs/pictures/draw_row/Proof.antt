@@ -5,8 +5,8 @@ use Prim.Native.Nat.{_-_}
 use lib.ListN.{length}
 use lib.Seq.{length-take-le}
 use borrow.Author.Needs.{needs}
-use Rattle.canvas.proofs.bytes.Pixels.{sized-length}
-use Rattle.canvas.proofs.chunks.Chunks.{prefix-kept, part-fits}
+use Rattle.pixels.proofs.bytes.Pixels.{sized-length}
+use Rattle.canvas.proofs.copy.Chunked.{prefix-kept, part-fits}
 use Rattle.canvas.proofs.pictures.Overlays.{Overlaid, over-none, over-more, over-all, over-length}
 use Rattle.canvas.proofs.pictures.draw_row.Statement.{statement}
 use Rattle.canvas.proofs.pictures.draw_row.Tie as tie

@@ -7,25 +7,19 @@ use Rattle.canvas.specs.Plot.{at, inks}
 use Rattle.canvas.specs.Call.{dots}
 use Rattle.canvas.proofs.span.Lifts.{lowers}
 use Rattle.canvas.proofs.plot.Draws.{ready-few}
-use Rattle.canvas.proofs.plot.Answers.{refuses, accepts, sound, draws}
+use Rattle.canvas.proofs.plot.Answers.{start-refuses, start-sized, start-draws}
 use borrow.Author.Needs.{needs}
 use Rattle.canvas.proofs.plot.put_pixel.Statement.{statement}
 use Rattle.canvas.proofs.plot.put_pixel.Tie as tie
 
-judge-requires : tie.Need-judge-requires
-judge-requires c κs = search needs
+begin-requires : tie.Need-begin-requires
+begin-requires c κs = search needs
 
-enum-known-s : tie.Need-enum-known-s
-enum-known-s c = search needs
+enum-known-r : tie.Need-enum-known-r
+enum-known-r c = search needs
 
-returns : tie.Need-returns
-returns c = refuses (c .before .before .before .before .before .args .canvas) (c .before .before .before .before .before .args .bytes .now) _ (c .before .before .before .judge .ensures) Sound _ _ _ (c .before .s .given .1)
-
-enum-told : tie.Need-enum-told
-enum-told c = search needs
-
-plot-ink-requires : tie.Need-plot-ink-requires
-plot-ink-requires c κs = search needs
+enum-known-ink : tie.Need-enum-known-ink
+enum-known-ink c = search needs
 
 lift-requires : tie.Need-lift-requires
 lift-requires c κs = search needs
@@ -34,26 +28,33 @@ lift-requires-2 : tie.Need-lift-requires-2
 lift-requires-2 c κs = search needs
 
 plot-at-requires : tie.Need-plot-at-requires
-plot-at-requires c κs = ready-few (accepts (c .before .before .before .before .before .before .before .before .args .canvas) (c .before .before .before .before .before .before .before .before .args .bytes .now) _ (c .before .before .before .before .before .before .judge .ensures) (c .before .before .before .before .enum-told .given .1)) refl (omega arith)
+plot-at-requires c κs =
+    ready-few (start-sized (c .before .before .before .before .before .before .before .before .args .canvas) (c .before .before .before .before .before .before .before .before .args .bytes .now) Sound (c .before .before .before .before .before .before .before .before .args .color) _ _ refl (c .before .before .before .before .before .before .begin .ensures) _ (c .before .before .before .before .ink .given .1)) refl (omega arith)
+
+returns : tie.Need-returns
+returns c = start-refuses (c .before .before .before .before .before .args .canvas) (c .before .before .before .before .before .args .bytes .now) Sound (c .before .before .before .before .before .args .color) _ _ refl (c .before .before .before .begin .ensures) _ _ _ (c .before .r .given .1)
 
 same-length : tie.Need-same-length
 same-length c = search needs
 
 returns-2 : tie.Need-returns-2
 unfolding dots inks
-returns-2 c = draws (c .before .before .before .before .before .before .before .before .before .before .before .args .canvas) (c .before .before .before .before .before .before .before .before .before .before .before .args .bytes .now) (c .before .before .before .before .before .before .before .before .before .before .before .args .clip) (c .before .before .before .before .before .before .before .before .before .before .before .args .color) (at (c .before .before .before .before .before .before .before .before .before .before .before .args .x) (c .before .before .before .before .before .before .before .before .before .before .before .args .y) ∷ []) _ _ _ _ _ (sound (c .before .before .before .before .before .before .before .before .before .before .before .args .canvas) (c .before .before .before .before .before .before .before .before .before .before .before .args .bytes .now) _ (c .before .before .before .before .before .before .before .before .before .judge .ensures) Sound (c .before .before .before .before .before .before .before .enum-told .given .1) refl) (record { byte = λ i. omega (arith, c .before .before .before .before .before .before .before .before .before .before .slice-known .given i) }) (record { a = omega arith; r = omega arith; g = omega arith; b = omega arith }) (c .before .before .before .before .before .before .plot-ink .ensures) refl (rw (lowers (c .before .before .before .before .before .before .before .before .before .before .before .args .x) _ (c .before .before .before .before .before .before .before .before .before .before .before .fits .x) (c .before .before .before .before .before .lift .ensures), lowers (c .before .before .before .before .before .before .before .before .before .before .before .args .y) _ (c .before .before .before .before .before .before .before .before .before .before .before .fits .y) (c .before .before .before .before .lift2 .ensures)) at (c .before .before .plot-at .ensures))
+returns-2 c =
+    start-draws (c .before .before .before .before .before .before .before .before .before .before .before .args .canvas) (c .before .before .before .before .before .before .before .before .before .before .before .args .bytes .now) Sound (c .before .before .before .before .before .before .before .before .before .before .before .args .color) _ _ refl (c .before .before .before .before .before .before .before .before .before .begin .ensures) _ (c .before .before .before .before .before .before .before .ink .given .1) (c .before .before .before .before .before .before .before .before .before .before .before .args .clip) (at (c .before .before .before .before .before .before .before .before .before .before .before .args .x) (c .before .before .before .before .before .before .before .before .before .before .before .args .y) ∷ []) _ _
+    (record { byte = λ i. c .before .before .before .before .before .before .before .before .before .before .slice-known .given i .fits })
+    (record { a = c .before .before .before .before .before .before .before .before .before .before .before .good .1 .1 .1 .1 .0 .1 .1 .0 .1; r = c .before .before .before .before .before .before .before .before .before .before .before .good .1 .1 .1 .1 .0 .1 .1 .1 .0 .1; g = c .before .before .before .before .before .before .before .before .before .before .before .good .1 .1 .1 .1 .0 .1 .1 .1 .1 .0 .1; b = c .before .before .before .before .before .before .before .before .before .before .before .good .1 .1 .1 .1 .0 .1 .1 .1 .1 .1 .0 .1 })
+    (rw (lowers (c .before .before .before .before .before .before .before .before .before .before .before .args .x) _ (c .before .before .before .before .before .before .before .before .before .before .before .fits .x) (c .before .before .before .before .before .lift .ensures), lowers (c .before .before .before .before .before .before .before .before .before .before .before .args .y) _ (c .before .before .before .before .before .before .before .before .before .before .before .fits .y) (c .before .before .before .before .lift2 .ensures)) at (c .before .before .plot-at .ensures))
 
 pub put-pixel-spec : {M : Type 1} → statement M
 put-pixel-spec =
     tie.close
     (tie.spec
-    judge-requires
-    enum-known-s
-    returns
-    enum-told
-    plot-ink-requires
+    begin-requires
+    enum-known-r
+    enum-known-ink
     lift-requires
     lift-requires-2
     plot-at-requires
+    returns
     same-length
     returns-2)

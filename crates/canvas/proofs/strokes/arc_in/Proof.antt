@@ -1,17 +1,17 @@
 -- With a side 0 nothing is plotted; else the stroke of the box's oval.
-use native.Mathlib.Omega.{arith}
+use mathlib.Core.Path.{sym, _∙_}
 use Rattle.words.specs.Ink.{inked}
-use Rattle.canvas.proofs.ovals.Sieves.{first-none, second-none, did-nothing, did-same}
+use Rattle.canvas.proofs.ovals.Sieves.{did-nothing, did-same}
 use Rattle.canvas.proofs.strokes.Outlines.{arc-none, arc-stroke}
 use borrow.Author.Needs.{needs}
 use Rattle.canvas.proofs.strokes.arc_in.Statement.{statement}
 use Rattle.canvas.proofs.strokes.arc_in.Tie as tie
 
-returns : tie.Need-returns
-returns c = did-nothing (inked (c .before .before .args .ink)) _ (arc-none (c .before .before .args .canvas) (c .before .before .args .x) (c .before .before .args .y) (c .before .before .args .w) (c .before .before .args .h) (c .before .before .args .start) (c .before .before .args .sweep) (first-none (c .before .before .args .w) (c .before .before .args .h) (c .if1 .taken)))
+is-empty-requires : tie.Need-is-empty-requires
+is-empty-requires c κs = search needs
 
-returns-2 : tie.Need-returns-2
-returns-2 c = did-nothing (inked (c .before .before .before .args .ink)) _ (arc-none (c .before .before .before .args .canvas) (c .before .before .before .args .x) (c .before .before .before .args .y) (c .before .before .before .args .w) (c .before .before .before .args .h) (c .before .before .before .args .start) (c .before .before .before .args .sweep) (second-none (c .before .before .before .args .w) (c .before .before .before .args .h) (omega (arith, c .before .if1 .left)) (c .if2 .taken)))
+returns : tie.Need-returns
+returns c = did-nothing (inked (c .before .before .before .args .ink)) _ (arc-none (c .before .before .before .args .canvas) (c .before .before .before .args .x) (c .before .before .before .args .y) (c .before .before .before .args .w) (c .before .before .before .args .h) (c .before .before .before .args .start) (c .before .before .before .args .sweep) (sym (c .before .is-empty .ensures) ∙ c .if1 .taken))
 
 oval-in-requires : tie.Need-oval-in-requires
 oval-in-requires c κs = search needs
@@ -34,20 +34,8 @@ stroke-in-requires c κs = search needs
 same-length : tie.Need-same-length
 same-length c = search needs
 
-returns-3 : tie.Need-returns-3
-returns-3 c = did-same (inked (c .before .before .before .before .before .before .before .before .before .before .before .before .args .ink)) _ _ (arc-stroke (c .before .before .before .before .before .before .before .before .before .before .before .before .args .canvas) (c .before .before .before .before .before .before .before .before .before .before .before .before .args .x) (c .before .before .before .before .before .before .before .before .before .before .before .before .args .y) (c .before .before .before .before .before .before .before .before .before .before .before .before .args .w) (c .before .before .before .before .before .before .before .before .before .before .before .before .args .h) (c .before .before .before .before .before .before .before .before .before .before .before .before .args .start) (c .before .before .before .before .before .before .before .before .before .before .before .before .args .sweep) (c .before .before .before .before .before .before .before .before .oval-in .result) (c .before .before .before .before .before .before .radians .result) (c .before .before .before .before .radians2 .result) (c .before .before .before .before .before .before .before .nearest-i32-to-f32 .result) (c .before .before .before .before .before .nearest-i32-to-f322 .result) (c .before .before .before .before .before .before .before .before .before .before .before .before .fits .x) (c .before .before .before .before .before .before .before .before .before .before .before .before .fits .y) (c .before .before .before .before .before .before .before .before .before .before .before .before .fits .start) (c .before .before .before .before .before .before .before .before .before .before .before .before .fits .sweep) (omega (arith, c .before .before .before .before .before .before .before .before .before .before .if1 .left)) (omega (arith, c .before .before .before .before .before .before .before .before .before .if2 .left)) (c .before .before .before .before .before .before .before .before .oval-in .ensures) (c .before .before .before .before .before .before .before .nearest-i32-to-f32 .ensures) (c .before .before .before .before .before .before .radians .ensures) (c .before .before .before .before .before .nearest-i32-to-f322 .ensures) (c .before .before .before .before .radians2 .ensures)) (c .before .before .stroke-in .ensures)
+returns-2 : tie.Need-returns-2
+returns-2 c = did-same (inked (c .before .before .before .before .before .before .before .before .before .before .before .before .args .ink)) _ _ (arc-stroke (c .before .before .before .before .before .before .before .before .before .before .before .before .args .canvas) (c .before .before .before .before .before .before .before .before .before .before .before .before .args .x) (c .before .before .before .before .before .before .before .before .before .before .before .before .args .y) (c .before .before .before .before .before .before .before .before .before .before .before .before .args .w) (c .before .before .before .before .before .before .before .before .before .before .before .before .args .h) (c .before .before .before .before .before .before .before .before .before .before .before .before .args .start) (c .before .before .before .before .before .before .before .before .before .before .before .before .args .sweep) (c .before .before .before .before .before .before .before .before .oval-in .result) (c .before .before .before .before .before .before .radians .result) (c .before .before .before .before .radians2 .result) (c .before .before .before .before .before .before .before .nearest-i32-to-f32 .result) (c .before .before .before .before .before .nearest-i32-to-f322 .result) (c .before .before .before .before .before .before .before .before .before .before .before .before .fits .x) (c .before .before .before .before .before .before .before .before .before .before .before .before .fits .y) (c .before .before .before .before .before .before .before .before .before .before .before .before .fits .start) (c .before .before .before .before .before .before .before .before .before .before .before .before .fits .sweep) (sym (c .before .before .before .before .before .before .before .before .before .before .is-empty .ensures) ∙ c .before .before .before .before .before .before .before .before .before .if1 .left) (c .before .before .before .before .before .before .before .before .oval-in .ensures) (c .before .before .before .before .before .before .before .nearest-i32-to-f32 .ensures) (c .before .before .before .before .before .before .radians .ensures) (c .before .before .before .before .before .nearest-i32-to-f322 .ensures) (c .before .before .before .before .radians2 .ensures)) (c .before .before .stroke-in .ensures)
 
 pub arc-in-spec : {M : Type 1} → statement M
-arc-in-spec =
-    tie.close
-    (tie.spec
-    returns
-    returns-2
-    oval-in-requires
-    nearest-i32-to-f32-requires
-    radians-requires
-    nearest-i32-to-f32-requires-2
-    radians-requires-2
-    stroke-in-requires
-    same-length
-    returns-3)
+arc-in-spec = tie.close (tie.spec is-empty-requires returns oval-in-requires nearest-i32-to-f32-requires radians-requires nearest-i32-to-f32-requires-2 radians-requires-2 stroke-in-requires same-length returns-2)

@@ -1,7 +1,7 @@
 -- The loop by the bytes of a word, in the window of canvas and clip.
 use mathlib.Core.Path.{sym}
 use Rattle.words.specs.Ink.{inked}
-use Rattle.canvas.proofs.bytes.Places.{one-byte, two-bytes, four-bytes}
+use Rattle.pixels.proofs.bytes.Places.{one-byte, two-bytes, four-bytes}
 use Rattle.canvas.proofs.plot.Dabs.{window-fields}
 use Rattle.canvas.proofs.lines.Loops.{window-of}
 use Rattle.canvas.proofs.strokes.Stroking.{stroke-did, few-steps}

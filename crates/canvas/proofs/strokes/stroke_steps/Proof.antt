@@ -3,7 +3,7 @@ use native.Mathlib.Omega.{arith}
 use Rattle.words.specs.Ink.{inked}
 use Prim.Native.Nat.{suc, _-_}
 use Rattle.canvas.specs.Walk.{work}
-use Rattle.canvas.proofs.bytes.Pixels.{sized-length}
+use Rattle.pixels.proofs.bytes.Pixels.{sized-length}
 use Rattle.canvas.proofs.plot.Dabs.{dabbing-length}
 use Rattle.canvas.proofs.strokes.Stroking.{Stroking, stroking-start, stroking-room, stroking-turn, stroking-end}
 use Rattle.canvas.proofs.strokes.stroke_steps.Statement.{statement}

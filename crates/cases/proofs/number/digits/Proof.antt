@@ -3,12 +3,12 @@ use mathlib.Core.Path.{_≡_, refl, sym, _∙_}
 use Prim.Native.Nat.{_≤_, _-_}
 use native.Mathlib.Omega.{arith}
 use lib.ListN.{length}
-use borrow.Author.Needs.{needs}
 use Rattle.cases.specs.Line.{next, after}
 use Rattle.cases.specs.Place.{leftAt}
 use Rattle.cases.specs.Number.{digits}
 use Rattle.cases.proofs.Reading.{space, last, losing}
-use Rattle.cases.proofs.Numbers.{digit, low, high, large}
+use Rattle.cases.proofs.Numbers.{no-digit, at-most, one-digit}
+use borrow.Author.Needs.{needs}
 use Rattle.cases.proofs.number.digits.Statement.{statement}
 use Rattle.cases.proofs.number.digits.Tie as tie
 
@@ -27,11 +27,11 @@ shared-slice-read-wide c = search needs
 wide-requires : tie.Need-wide-requires Inv-loop μ-loop
 wide-requires c κs = search needs
 
-cast-t12 : tie.Need-cast-t12 Inv-loop μ-loop
-cast-t12 c = omega (arith, c .before .before .before .before .before .before .fits .most)
+cast-t14 : tie.Need-cast-t14 Inv-loop μ-loop
+cast-t14 c = omega (arith, c .before .before .before .before .before .before .fits .most)
 
-add-t13 : tie.Need-add-t13 Inv-loop μ-loop
-add-t13 c = search needs
+add-t15 : tie.Need-add-t15 Inv-loop μ-loop
+add-t15 c = search needs
 
 returns : tie.Need-returns Inv-loop μ-loop
 unfolding after digits
@@ -40,47 +40,24 @@ returns c =
     let l = c .before .before .before .before .loop in
     (sym (l .inv .2 ∙ space 0 (digits (a .most) (l .value)) (a .line .now) (l .i) (c .before .before .before .loop-test .taken) (sym (c .before .wide .ensures .0) ∙ c .if1 .taken)), l .inv .1)
 
-add-t15 : tie.Need-add-t15 Inv-loop μ-loop
-add-t15 c = search needs
+add-d : tie.Need-add-d Inv-loop μ-loop
+add-d c = search needs
+
+mul-v : tie.Need-mul-v Inv-loop μ-loop
+mul-v c = omega (arith, c .before .before .before .before .before .before .fits .most)
+
+add-v : tie.Need-add-v Inv-loop μ-loop
+add-v c = omega (arith, c .before .before .before .before .before .before .fits .most)
+
+add-t20 : tie.Need-add-t20 Inv-loop μ-loop
+add-t20 c = search needs
 
 returns-2 : tie.Need-returns-2 Inv-loop μ-loop
 returns-2 c =
     let a = c .before .before .before .before .before .before .before .args in
     let l = c .before .before .before .before .before .loop in
     let wide = c .before .before .wide in
-    (losing 0 (a .line .now) (l .inv .2 ∙ low (a .most) (l .value) (a .line .now) (l .i) (wide .result) (c .before .before .before .before .loop-test .taken) (wide .ensures .0) (c .before .if1 .left) (c .if2 .taken)), omega arith)
-
-add-t17 : tie.Need-add-t17 Inv-loop μ-loop
-add-t17 c = search needs
-
-returns-3 : tie.Need-returns-3 Inv-loop μ-loop
-returns-3 c =
-    let a = c .before .before .before .before .before .before .before .before .args in
-    let l = c .before .before .before .before .before .before .loop in
-    let wide = c .before .before .before .wide in
-    (losing 0 (a .line .now) (l .inv .2 ∙ high (a .most) (l .value) (a .line .now) (l .i) (wide .result) (c .before .before .before .before .before .loop-test .taken) (wide .ensures .0) (c .before .before .if1 .left) (c .before .if2 .left) (c .if3 .taken)), omega arith)
-
-mul-if4 : tie.Need-mul-if4 Inv-loop μ-loop
-mul-if4 c = omega (arith, c .before .before .before .before .before .before .before .before .fits .most)
-
-add-if4 : tie.Need-add-if4 Inv-loop μ-loop
-add-if4 c = omega (arith, c .before .before .before .before .before .before .before .before .fits .most)
-
-add-t22 : tie.Need-add-t22 Inv-loop μ-loop
-add-t22 c = search needs
-
-returns-4 : tie.Need-returns-4 Inv-loop μ-loop
-returns-4 c =
-    let a = c .before .before .before .before .before .before .before .before .before .args in
-    let l = c .before .before .before .before .before .before .before .loop in
-    let wide = c .before .before .before .before .wide in
-    (losing 0 (a .line .now) (l .inv .2 ∙ large (a .most) (l .value) (a .line .now) (l .i) (wide .result) (c .before .before .before .before .before .before .loop-test .taken) (wide .ensures .0) (c .before .before .before .if1 .left) (c .before .before .if2 .left) (c .before .if3 .left) (c .if4 .taken)), omega arith)
-
-mul-value : tie.Need-mul-value Inv-loop μ-loop
-mul-value c = omega (arith, c .before .before .before .before .before .before .before .before .before .fits .most)
-
-add-value : tie.Need-add-value Inv-loop μ-loop
-add-value c = omega (arith, c .before .before .before .before .before .before .before .before .before .fits .most)
+    (losing 0 (a .line .now) (l .inv .2 ∙ no-digit (a .most) (l .value) (a .line .now) (l .i) (wide .result) (c .before .before .before .before .loop-test .taken) (wide .ensures .0) (c .before .if1 .left) (wide .ensures .1) (c .if2 .taken)), omega arith)
 
 add-i : tie.Need-add-i Inv-loop μ-loop
 add-i c = search needs
@@ -90,20 +67,20 @@ loop-less c = omega arith
 
 loop-again : tie.Need-loop-again Inv-loop μ-loop
 loop-again c =
-    let a = c .before .before .before .before .before .before .before .before .before .args in
-    let l = c .before .before .before .before .before .before .before .loop in
-    let wide = c .before .before .before .before .wide in
-    (omega arith, omega arith, l .inv .2 ∙ digit (a .most) (l .value) (a .line .now) (l .i) (wide .result) (c .before .before .before .before .before .before .loop-test .taken) (wide .ensures .0) (c .before .before .before .if1 .left) (c .before .before .if2 .left) (c .before .if3 .left) (c .if4 .left))
+    let a = c .before .before .before .before .before .before .before .args in
+    let l = c .before .before .before .before .before .loop in
+    let wide = c .before .before .wide in
+    (omega arith, at-most (a .most) (l .value) (a .line .now) (l .i) (wide .result) (c .before .before .before .before .loop-test .taken) (wide .ensures .0) (c .before .if1 .left) (wide .ensures .1) (c .if2 .left), l .inv .2 ∙ one-digit (a .most) (l .value) (a .line .now) (l .i) (wide .result) (c .before .before .before .before .loop-test .taken) (wide .ensures .0) (c .before .if1 .left) (wide .ensures .1) (c .if2 .left))
 
-cast-t23 : tie.Need-cast-t23 Inv-loop μ-loop
-cast-t23 c = omega (arith, c .before .before .before .fits .most)
+cast-t21 : tie.Need-cast-t21 Inv-loop μ-loop
+cast-t21 c = omega (arith, c .before .before .before .fits .most)
 
-add-t24 : tie.Need-add-t24 Inv-loop μ-loop
-add-t24 c = search needs
+add-t22 : tie.Need-add-t22 Inv-loop μ-loop
+add-t22 c = search needs
 
-returns-5 : tie.Need-returns-5 Inv-loop μ-loop
+returns-3 : tie.Need-returns-3 Inv-loop μ-loop
 unfolding after digits
-returns-5 c =
+returns-3 c =
     let a = c .before .before .before .args in
     let l = c .before .loop in
     (sym (l .inv .2 ∙ last 0 (digits (a .most) (l .value)) (a .line .now) (l .i) (omega arith)), l .inv .1)
@@ -117,22 +94,17 @@ digits-spec =
     loop-holds
     shared-slice-read-wide
     wide-requires
-    cast-t12
-    add-t13
-    returns
+    cast-t14
     add-t15
+    returns
+    add-d
+    mul-v
+    add-v
+    add-t20
     returns-2
-    add-t17
-    returns-3
-    mul-if4
-    add-if4
-    add-t22
-    returns-4
-    mul-value
-    add-value
     add-i
     loop-less
     loop-again
-    cast-t23
-    add-t24
-    returns-5)
+    cast-t21
+    add-t22
+    returns-3)

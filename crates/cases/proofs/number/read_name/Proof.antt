@@ -7,7 +7,7 @@ use Rattle.cases.specs.Line.{next, after}
 use Rattle.cases.specs.Place.{leftAt}
 use Rattle.cases.specs.Number.{nameOf, letters as letters-of}
 use Rattle.cases.proofs.Reading.{nothing, space, last, losing}
-use Rattle.cases.proofs.Numbers.{one-more, no-byte, too-long}
+use Rattle.cases.proofs.Numbers.{no-letter, not-full, one-letter}
 use borrow.Author.Needs.{needs}
 use Rattle.cases.proofs.number.read_name.Statement.{statement}
 use Rattle.cases.proofs.number.read_name.Tie as tie
@@ -40,10 +40,8 @@ add-t14 c = search needs
 returns-2 : tie.Need-returns-2 Inv-loop μ-loop
 unfolding nameOf after letters-of
 returns-2 c =
-    let a = c .before .before .before .before .before .before .before .args in
     let l = c .before .before .before .before .loop in
-    let wide = c .before .wide in
-    sym (l .inv .1 ∙ space 0 (letters-of (l .letters)) (a .line .now) (l .i) (c .before .before .before .loop-test .taken) (sym (wide .ensures .0) ∙ c .if2 .taken))
+    sym (l .inv .1 ∙ space 0 (letters-of (l .letters)) (c .before .before .before .before .before .before .before .args .line .now) (l .i) (c .before .before .before .loop-test .taken) (sym (c .before .wide .ensures .0) ∙ c .if2 .taken))
 
 returns-3 : tie.Need-returns-3 Inv-loop μ-loop
 unfolding nameOf
@@ -51,21 +49,21 @@ returns-3 c =
     let a = c .before .before .before .before .before .before .before .before .args in
     let l = c .before .before .before .before .before .loop in
     let wide = c .before .before .wide in
-    losing 0 (a .line .now) (l .inv .1 ∙ no-byte (l .letters) (a .line .now) (l .i) (wide .result) (c .before .before .before .before .loop-test .taken) (wide .ensures .0) (c .before .if2 .left) (c .if3 .taken))
-
-returns-4 : tie.Need-returns-4 Inv-loop μ-loop
-unfolding nameOf
-returns-4 c =
-    let a = c .before .before .before .before .before .before .before .before .before .args in
-    let l = c .before .before .before .before .before .before .loop in
-    let wide = c .before .before .before .wide in
-    losing 0 (a .line .now) (l .inv .1 ∙ too-long (l .letters) (a .line .now) (l .i) (wide .result) (c .before .before .before .before .before .loop-test .taken) (wide .ensures .0) (c .before .before .if2 .left) (c .before .if3 .left) (c .if4 .taken))
+    losing 0 (a .line .now) (l .inv .1 ∙ no-letter (l .letters) (a .line .now) (l .i) (wide .result) (c .before .before .before .before .loop-test .taken) (wide .ensures .0) (c .before .if2 .left) (c .if3 .taken))
 
 mul-letters : tie.Need-mul-letters Inv-loop μ-loop
-mul-letters c = omega (arith, c .if4 .left)
+mul-letters c =
+    let a = c .before .before .before .before .before .before .before .before .args in
+    let l = c .before .before .before .before .before .loop in
+    let wide = c .before .before .wide in
+    omega (arith, wide .ensures .1, not-full (l .letters) (a .line .now) (l .i) (wide .result) (c .before .before .before .before .loop-test .taken) (wide .ensures .0) (c .before .if2 .left) (c .if3 .left))
 
 add-letters : tie.Need-add-letters Inv-loop μ-loop
-add-letters c = omega (arith, c .if4 .left, c .before .before .before .wide .ensures .1)
+add-letters c =
+    let a = c .before .before .before .before .before .before .before .before .args in
+    let l = c .before .before .before .before .before .loop in
+    let wide = c .before .before .wide in
+    omega (arith, wide .ensures .1, not-full (l .letters) (a .line .now) (l .i) (wide .result) (c .before .before .before .before .loop-test .taken) (wide .ensures .0) (c .before .if2 .left) (c .if3 .left))
 
 add-i : tie.Need-add-i Inv-loop μ-loop
 add-i c = search needs
@@ -75,20 +73,19 @@ loop-less c = omega arith
 
 loop-again : tie.Need-loop-again Inv-loop μ-loop
 loop-again c =
-    let a = c .before .before .before .before .before .before .before .before .before .args in
-    let l = c .before .before .before .before .before .before .loop in
-    let wide = c .before .before .before .wide in
-    (omega arith, l .inv .1 ∙ one-more (l .letters) (a .line .now) (l .i) (wide .result) (c .before .before .before .before .before .loop-test .taken) (wide .ensures .0) (c .before .before .if2 .left) (c .before .if3 .left) (c .if4 .left))
+    let a = c .before .before .before .before .before .before .before .before .args in
+    let l = c .before .before .before .before .before .loop in
+    let wide = c .before .before .wide in
+    (omega arith, l .inv .1 ∙ one-letter (l .letters) (a .line .now) (l .i) (wide .result) (c .before .before .before .before .loop-test .taken) (wide .ensures .0) (c .before .if2 .left) (c .if3 .left))
 
 add-t8-2 : tie.Need-add-t8-2 Inv-loop μ-loop
 add-t8-2 c = search needs
 
-returns-5 : tie.Need-returns-5 Inv-loop μ-loop
+returns-4 : tie.Need-returns-4 Inv-loop μ-loop
 unfolding nameOf after letters-of
-returns-5 c =
-    let a = c .before .before .before .before .args in
+returns-4 c =
     let l = c .before .loop in
-    sym (l .inv .1 ∙ last 0 (letters-of (l .letters)) (a .line .now) (l .i) (omega arith))
+    sym (l .inv .1 ∙ last 0 (letters-of (l .letters)) (c .before .before .before .before .args .line .now) (l .i) (omega arith))
 
 pub read-name-spec : {M : Type 1} → statement M
 read-name-spec =
@@ -104,11 +101,10 @@ read-name-spec =
     add-t14
     returns-2
     returns-3
-    returns-4
     mul-letters
     add-letters
     add-i
     loop-less
     loop-again
     add-t8-2
-    returns-5)
+    returns-4)

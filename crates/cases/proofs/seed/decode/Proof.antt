@@ -5,11 +5,11 @@ use Prim.Native.Nat.{ℕ, _≤_, _-_, _+_, _*_, _%_}
 use native.Mathlib.Omega.{arith}
 use lib.ListN.{length, take, getD, set, length-set}
 use lib.Seq.{take-all}
-use borrow.Author.Needs.{needs}
 use Rattle.cases.specs.Seed.{nibble, byte}
 use Rattle.cases.specs.Place.{pairs}
 use Rattle.cases.proofs.Fills.{snoc}
 use Rattle.cases.proofs.Seeds.{pairs-more}
+use borrow.Author.Needs.{needs}
 use Rattle.cases.proofs.seed.decode.Statement.{statement}
 use Rattle.cases.proofs.seed.decode.Tie as tie
 
@@ -23,11 +23,11 @@ loop-holds : tie.Need-loop-holds Inv-loop μ-loop
 unfolding pairs
 loop-holds c = (refl, omega arith, refl)
 
-mul-nibble : tie.Need-mul-nibble Inv-loop μ-loop
-mul-nibble c = omega arith
+mul-at : tie.Need-mul-at Inv-loop μ-loop
+mul-at c = omega arith
 
-add-nibble : tie.Need-add-nibble Inv-loop μ-loop
-add-nibble c = omega arith
+add-at : tie.Need-add-at Inv-loop μ-loop
+add-at c = omega arith
 
 shared-slice-read-nibble : tie.Need-shared-slice-read-nibble Inv-loop μ-loop
 shared-slice-read-nibble c = omega arith
@@ -38,14 +38,8 @@ nibble-requires c κs = search needs
 mul-bytes : tie.Need-mul-bytes Inv-loop μ-loop
 mul-bytes c = omega arith
 
-mul-nibble-2 : tie.Need-mul-nibble-2 Inv-loop μ-loop
-mul-nibble-2 c = omega arith
-
-add-nibble-2 : tie.Need-add-nibble-2 Inv-loop μ-loop
-add-nibble-2 c = omega arith
-
-add-nibble-3 : tie.Need-add-nibble-3 Inv-loop μ-loop
-add-nibble-3 c = omega arith
+add-nibble : tie.Need-add-nibble Inv-loop μ-loop
+add-nibble c = omega arith
 
 shared-slice-read-nibble-2 : tie.Need-shared-slice-read-nibble-2 Inv-loop μ-loop
 shared-slice-read-nibble-2 c = omega arith
@@ -88,14 +82,12 @@ decode-spec =
     Inv-loop
     μ-loop
     loop-holds
-    mul-nibble
-    add-nibble
+    mul-at
+    add-at
     shared-slice-read-nibble
     nibble-requires
     mul-bytes
-    mul-nibble-2
-    add-nibble-2
-    add-nibble-3
+    add-nibble
     shared-slice-read-nibble-2
     nibble-requires-2
     add-bytes

@@ -3,12 +3,12 @@ use mathlib.Core.Path.{_≡_, sym, _∙_}
 use Prim.Native.Nat.{_≤_, _-_, _+_, _*_}
 use native.Mathlib.Omega.{arith}
 use lib.ListN.{length}
-use borrow.Author.Needs.{needs}
 use Rattle.cases.specs.Line.{next}
 use Rattle.cases.specs.Place.{leftAt, pairs, sown, Within}
 use Rattle.cases.specs.Seed.{counted, givenHex}
-use Rattle.cases.proofs.Seeds.{onward, rest, opened, closed, odd, high, low}
+use Rattle.cases.proofs.Seeds.{rest, opened, closed, odd, unpaired, paired}
 use Rattle.cases.proofs.Reading.{losing, space, last}
+use borrow.Author.Needs.{needs}
 use Rattle.cases.proofs.seed.read_hex.Statement.{statement}
 use Rattle.cases.proofs.seed.read_hex.Tie as tie
 
@@ -54,16 +54,6 @@ shared-slice-read-nibble c = search needs
 nibble-requires : tie.Need-nibble-requires Inv-loop μ-loop
 nibble-requires c κs = search needs
 
-add-t19 : tie.Need-add-t19 Inv-loop μ-loop
-add-t19 c = search needs
-
-returns-3 : tie.Need-returns-3 Inv-loop μ-loop
-unfolding sown Within
-returns-3 c =
-    let a = c .before .before .before .before .before .before .before .before .before .args in
-    let l = c .before .before .before .before .before .before .before .loop in
-    (losing (counted 0) (a .line .now) (l .inv .2 ∙ high (pairs (a .line .now) (a .at) (l .n)) (a .line .now) (l .i) (c .before .before .before .before .before .before .loop-test .taken) (c .before .before .before .before .if1 .left) (omega (arith, c .before .nibble .ensures))), tt)
-
 add-nibble : tie.Need-add-nibble Inv-loop μ-loop
 add-nibble c = search needs
 
@@ -73,15 +63,15 @@ shared-slice-read-nibble-2 c = search needs
 nibble-requires-2 : tie.Need-nibble-requires-2 Inv-loop μ-loop
 nibble-requires-2 c κs = search needs
 
-add-t23 : tie.Need-add-t23 Inv-loop μ-loop
-add-t23 c = search needs
+add-t24 : tie.Need-add-t24 Inv-loop μ-loop
+add-t24 c = search needs
 
-returns-4 : tie.Need-returns-4 Inv-loop μ-loop
+returns-3 : tie.Need-returns-3 Inv-loop μ-loop
 unfolding sown Within
-returns-4 c =
-    let a = c .before .before .before .before .before .before .before .before .before .before .before .before .args in
-    let l = c .before .before .before .before .before .before .before .before .before .before .loop in
-    (losing (counted 0) (a .line .now) (l .inv .2 ∙ low (pairs (a .line .now) (a .at) (l .n)) (a .line .now) (l .i) (c .before .before .before .before .before .before .before .before .before .loop-test .taken) (c .before .before .before .before .before .before .before .if1 .left) (omega (arith, c .before .before .before .before .nibble .ensures)) (omega arith) (omega (arith, c .before .nibble2 .ensures))), tt)
+returns-3 c =
+    let a = c .before .before .before .before .before .before .before .before .before .before .before .args in
+    let l = c .before .before .before .before .before .before .before .before .before .loop in
+    (losing (counted 0) (a .line .now) (l .inv .2 ∙ unpaired (a .line .now) (l .i) (c .before .before .before .nibble .result) (c .before .nibble2 .result) (c .before .before .before .before .before .before .before .before .loop-test .taken) (c .before .before .before .before .before .before .if1 .left) (c .before .before .before .before .before .if2 .left) (c .before .before .before .nibble .ensures) (c .before .nibble2 .ensures) (pairs (a .line .now) (a .at) (l .n)) (c .if3 .taken)), tt)
 
 add-i : tie.Need-add-i Inv-loop μ-loop
 add-i c = search needs
@@ -94,16 +84,16 @@ loop-less c = omega arith
 
 loop-again : tie.Need-loop-again Inv-loop μ-loop
 loop-again c =
-    let a = c .before .before .before .before .before .before .before .before .before .before .before .before .args in
-    let l = c .before .before .before .before .before .before .before .before .before .before .loop in
-    (omega arith, omega arith, l .inv .2 ∙ onward (a .line .now) (a .at) (l .n) (l .i) (l .inv .0) (c .before .before .before .before .before .before .before .before .before .loop-test .taken) (c .before .before .before .before .before .before .before .if1 .left) (omega (arith, c .before .before .before .before .nibble .ensures)) (omega arith) (omega (arith, c .before .nibble2 .ensures)))
+    let a = c .before .before .before .before .before .before .before .before .before .before .before .args in
+    let l = c .before .before .before .before .before .before .before .before .before .loop in
+    (omega arith, omega arith, l .inv .2 ∙ paired (a .line .now) (a .at) (l .n) (l .i) (c .before .before .before .nibble .result) (c .before .nibble2 .result) (l .inv .0) (c .before .before .before .before .before .before .before .before .loop-test .taken) (c .before .before .before .before .before .before .if1 .left) (c .before .before .before .before .before .if2 .left) (c .before .before .before .nibble .ensures) (c .before .nibble2 .ensures) (c .if3 .left))
 
-add-t25 : tie.Need-add-t25 Inv-loop μ-loop
-add-t25 c = search needs
+add-t26 : tie.Need-add-t26 Inv-loop μ-loop
+add-t26 c = search needs
 
-returns-5 : tie.Need-returns-5 Inv-loop μ-loop
+returns-4 : tie.Need-returns-4 Inv-loop μ-loop
 unfolding sown Within
-returns-5 c =
+returns-4 c =
     let a = c .before .before .before .args in
     let l = c .before .loop in
     (sym (l .inv .2 ∙ last (counted 0) (rest (pairs (a .line .now) (a .at) (l .n))) (a .line .now) (l .i) (omega arith) ∙ closed (pairs (a .line .now) (a .at) (l .n)) _), omega arith)
@@ -123,16 +113,14 @@ read-hex-spec =
     returns-2
     shared-slice-read-nibble
     nibble-requires
-    add-t19
-    returns-3
     add-nibble
     shared-slice-read-nibble-2
     nibble-requires-2
-    add-t23
-    returns-4
+    add-t24
+    returns-3
     add-i
     add-n
     loop-less
     loop-again
-    add-t25
-    returns-5)
+    add-t26
+    returns-4)

@@ -19,24 +19,16 @@ cast-n-2 c = search needs
 mul-n : tie.Need-mul-n
 mul-n c = record { fits = area-fits _ _ (search needs) (search needs) }
 
+least-requires : tie.Need-least-requires
+least-requires c κs = search needs
+
 returns : tie.Need-returns
 returns c = search needs
 
 returns-2 : tie.Need-returns-2
 returns-2 c = search needs
 
-returns-3 : tie.Need-returns-3
-returns-3 c = search needs
-
 pub written-spec : {M : Type 1} → statement M
 written-spec =
     tie.close
-    (tie.spec
-    enum-told
-    enum-known-j
-    cast-n
-    cast-n-2
-    mul-n
-    returns
-    returns-2
-    returns-3)
+    (tie.spec enum-told enum-known-j cast-n cast-n-2 mul-n least-requires returns returns-2)

@@ -1,0 +1,2 @@
+-- What the proofs of the cuts use.
+pub mod Picks

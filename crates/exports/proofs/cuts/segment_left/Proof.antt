@@ -1,0 +1,25 @@
+-- Nothing, or something.
+use mathlib.Core.Path.{refl}
+use Rattle.exports.proofs.cuts.Picks.{left-is}
+use borrow.Author.Needs.{needs}
+use Rattle.exports.proofs.cuts.segment_left.Statement.{statement}
+use Rattle.exports.proofs.cuts.segment_left.Tie as tie
+
+clip-segment-requires : tie.Need-clip-segment-requires
+clip-segment-requires c κs = search needs
+
+enum-told : tie.Need-enum-told
+enum-told c = search needs
+
+enum-told-2 : tie.Need-enum-told-2
+enum-told-2 c = search needs
+
+returns : tie.Need-returns
+returns c = left-is (c .before .before .before .args .x1) (c .before .before .before .args .y1) (c .before .before .before .args .x2) (c .before .before .before .args .y2) (c .before .before .before .args .width) (c .before .before .before .args .height) (c .before .before .before .fits .x1) (c .before .before .before .fits .y1) (c .before .before .before .fits .x2) (c .before .before .before .fits .y2) (c .before .before .clip-segment .result) _ (c .before .before .clip-segment .ensures) (c .enum-told .given .1) _ refl
+
+returns-2 : tie.Need-returns-2
+returns-2 c = left-is (c .before .before .before .args .x1) (c .before .before .before .args .y1) (c .before .before .before .args .x2) (c .before .before .before .args .y2) (c .before .before .before .args .width) (c .before .before .before .args .height) (c .before .before .before .fits .x1) (c .before .before .before .fits .y1) (c .before .before .before .fits .x2) (c .before .before .before .fits .y2) (c .before .before .clip-segment .result) _ (c .before .before .clip-segment .ensures) (c .enum-told2 .given .1) _ refl
+
+pub segment-left-spec : {M : Type 1} → statement M
+segment-left-spec =
+    tie.close (tie.spec clip-segment-requires enum-told enum-told-2 returns returns-2)

@@ -1,0 +1,12 @@
+// The canvas record, and the words of its pixels in the lent bytes: one by one, by rows and by chunks.
+pub mod bytes;
+pub mod chunks;
+pub mod rows;
+
+// A canvas is a format number, width, height and XOR switch; its bytes are lent beside it.
+pub struct Canvas {
+    pub format: u32,
+    pub width: u32,
+    pub height: u32,
+    pub xor: bool,
+}
