@@ -20,7 +20,7 @@ use Rattle.words.specs.Format.{formatOf, bytesPerPixel}
 use Rattle.cases.specs.Case.{exactly, fitting, capped, whole, Outcome, noCase, laid, lentAt, called, known, caseOf}
 use Rattle.cases.specs.declared.number.Name.{Name}
 use Rattle.cases.specs.declared.row.Args.{Args as Taken}
-use Rattle.cases.proofs.Either.{either, neither}
+use Rattle.words.proofs.Either.{either, neither}
 use Rattle.cases.proofs.Reading.{inside, finished, gone}
 use Rattle.cases.proofs.Rows.{head-kinds, no-kinds, some-kinds}
 

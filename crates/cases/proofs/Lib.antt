@@ -1,6 +1,5 @@
 pub mod Cases
 pub mod Determined
-pub mod Either
 pub mod Fills
 pub mod Hashes
 pub mod Numbers

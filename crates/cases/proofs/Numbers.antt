@@ -13,7 +13,7 @@ use borrow.Author.Tests.{le-leb, lt-leb, eq-eqb, ne-eqb, ltb-true, ltb-false, eq
 use Rattle.cases.specs.Line.{Left, words, lost, Value, value, none, Got, got, after, next, firstOf}
 use Rattle.cases.specs.Place.{leftAt}
 use Rattle.cases.specs.Number.{accepts, digits, natural, minus, negative, numberOf, negativeOf, signedOf, letters}
-use Rattle.cases.proofs.Either.{either, neither}
+use Rattle.words.proofs.Either.{either, neither}
 use Rattle.cases.proofs.Reading.{letter, alike, refused, short, barred, first-found, first-missed}
 
 module _ (most v : ℕ) (line : List ℕ) (i b : ℕ) (h : i < length line) (e : b ≡ getD line i 0) (s : b ≡ 32 → ⊥) where

@@ -17,7 +17,7 @@ use Rattle.cases.specs.Seed.{Sown, zeros, counted, given, nibble, byte, 
 use Rattle.cases.specs.Number.{natural, numberOf, nameOf}
 use Rattle.cases.specs.declared.seed.Seed.{Seed}
 use Rattle.cases.specs.declared.seed.Seed.the-variants.{Bytes}
-use Rattle.cases.proofs.Either.{either, neither}
+use Rattle.words.proofs.Either.{either, neither}
 use Rattle.cases.proofs.Reading.{letter, alike, refused, barred, short, empty, matched}
 
 -- What is still to be read after the first bytes.

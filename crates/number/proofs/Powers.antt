@@ -114,7 +114,7 @@ room n d j l q b D h k e =
     more : (a c l : ℕ) → a ≤ c → l + a ≤ l + c
     more a c l g = omega arith
 
-like : (s : Bool) → unlike s false ≡ s
+pub like : (s : Bool) → unlike s false ≡ s
 like true = refl
 like false = refl
 

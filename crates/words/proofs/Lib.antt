@@ -1,4 +1,5 @@
 pub mod Determined
+pub mod Either
 pub mod Formats
 pub mod Invert
 pub mod Laws

@@ -25,7 +25,7 @@ most : T (every at-most 0 nodes)
 unfolding nodes at-most
 most = tt
 
-count : {i : ℕ} → i < 513 → i < length nodes
+pub count : {i : ℕ} → i < 513 → i < length nodes
 unfolding nodes
 count h = h
 

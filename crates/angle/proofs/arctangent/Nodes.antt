@@ -4,13 +4,14 @@ use Prim.Native.Nat.{ℕ, _+_, _*_, _-_, _≤_, _<_}
 use mathlib.Core.Path.{sym, subst}
 use native.Mathlib.Omega.{arith}
 use lib.Dec.{T, leb, leb→le}
-use lib.ListN.{getD, length}
+use lib.ListN.{getD}
 use Rattle.angle.proofs.arctangent.Poly.{eval}
 use Rattle.angle.specs.Meaning.{D, whole, coef}
 use Rattle.angle.proofs.Terms.{sinAt, cosAt}
 use Rattle.angle.proofs.arctangent.Lists.{sinUp, sinDown, cosUp, cosDown, sin-lists, cos-lists}
 use Rattle.angle.specs.Nodes.{nodes}
 use Rattle.angle.proofs.arctangent.Budget.{W, E, B, Most, tau, B-few}
+use Rattle.angle.proofs.arctangent.Limits.{count}
 use Rattle.angle.proofs.Every.{both, every, at, both-left, both-right}
 
 -- where the series are taken for the node a
@@ -41,10 +42,6 @@ five a b c d e t =
     let t2 = both-right b (both c (both d e)) t1 in
     let t3 = both-right c (both d e) t2 in
     (both-left a (both b (both c (both d e))) t, both-left b (both c (both d e)) t1, both-left c (both d e) t2, both-left d e t3, both-right d e t3)
-
-count : {i : ℕ} → i < 513 → i < length nodes
-unfolding nodes
-count h = h
 
 made : (i a : ℕ) → T (right i a) → Node i a
 unfolding right test

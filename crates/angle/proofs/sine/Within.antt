@@ -14,7 +14,8 @@ use Rattle.number.specs.Size.{signOf}
 use Rattle.angle.specs.Meaning.{D, fact, whole, signed, parts, placed, sine, cosine, UpTo26, Close}
 use Rattle.angle.specs.Sine.{unitsOf, kOf, shortOf, restOf, squareOf, sineUnits, cosineUnits, timesOf, lessOf, sineFrom, asF32, sineAt, cosineAt, sineOf, cosineOf}
 use Rattle.angle.proofs.Signs as Signs
-use Rattle.angle.proofs.Signs.{like, opposite, product, apart}
+use Rattle.number.proofs.Powers.{like}
+use Rattle.angle.proofs.Signs.{opposite, product, apart}
 use Rattle.angle.proofs.Terms.{sinAt, cosAt}
 use Rattle.angle.proofs.Placing.{small, sine-is, cosine-is}
 use Rattle.angle.proofs.sine.Units.{Counted, counted, size-is, inside}

@@ -13,6 +13,7 @@ use lib.ListN.{length, length-append}
 use mir.Syntax.{w32}
 use mir.Val.{SFits, toZ, ofZ}
 use mir.ValLaws.{toZ-ofZ}
+use Rattle.words.proofs.Either.{neither}
 use Rattle.pixels.specs.declared.Canvas.{Canvas}
 use Rattle.canvas.specs.declared.Clip.{Clip}
 use Rattle.canvas.specs.declared.Tally.{Tally}
@@ -188,10 +189,6 @@ first-holds r a b e t = rw (sym e ∙ t) refl
 
 pub second-says : (r a b s : Bool) → r ≡ a → r ≡ false → s ≡ b → s ≡ (a || b)
 second-says r a b s e t f = rw (sym e ∙ t) f
-
-pub neither : (a b : Bool) → (a || b) ≡ false → (a ≡ false) × (b ≡ false)
-neither true b e = absurd (let z : _≡_ {A = ℕ} 0 1 = cc in omega arith)
-neither false b e = (refl, e)
 
 pub some-sides : (w h : ℕ) → (eqb w 0 || eqb h 0) ≡ false → (1 ≤ w) × (1 ≤ h)
 some-sides w h e =

@@ -30,7 +30,8 @@ use Rattle.canvas.proofs.plot.Paints.{drawn-is}
 use Rattle.pixels.proofs.Orders.{perm-of, Screen, By, by-pixel, paint-perm}
 use Rattle.canvas.proofs.plot.Landed.{Plots, no-more, and, hits-all}
 use Rattle.pixels.proofs.rows.Rows.{each-same}
-use Rattle.canvas.proofs.boxes.Boxes.{inks-append, inks-each, hits-append, hits-each, neither, some-sides, none-each, fill-none, select-le, each-le, fill-le}
+use Rattle.words.proofs.Either.{neither}
+use Rattle.canvas.proofs.boxes.Boxes.{inks-append, inks-each, hits-append, hits-each, some-sides, none-each, fill-none, select-le, each-le, fill-le}
 
 -- ---- a span of one
 

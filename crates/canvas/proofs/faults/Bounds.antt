@@ -14,7 +14,8 @@ use Rattle.canvas.specs.declared.Refusal.the-variants.{Shape}
 use Rattle.canvas.specs.declared.faults.Verdict.{Verdict}
 use Rattle.canvas.specs.declared.faults.Verdict.the-variants.{Sound}
 use Rattle.canvas.specs.Faults.{outside, angleFault, shapeFault, arcFault, Shaped}
-use Rattle.canvas.proofs.faults.Verdicts.{passes, neither, both-sound}
+use Rattle.words.proofs.Either.{neither}
+use Rattle.canvas.proofs.faults.Verdicts.{passes, both-sound}
 
 -- signed arguments reach a test as `toZ w (ofZ w x)`
 module _ (a low high : ℤ) (sa : SFits w32 a) (sl : SFits w32 low) (sh : SFits w32 high) where

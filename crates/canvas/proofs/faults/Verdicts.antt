@@ -7,6 +7,7 @@ use native.Mathlib.Omega.{arith}
 use borrow.Author.Tests.{ltb-false, eqb-true}
 use lib.Dec.{ltb, eqb}
 use lib.ListN.{length}
+use Rattle.words.proofs.Either.{neither}
 use Rattle.pixels.specs.declared.Canvas.{Canvas}
 use Rattle.canvas.specs.declared.Refusal.{Refusal}
 use Rattle.canvas.specs.declared.Refusal.the-variants.{Format, Size, Length}
@@ -27,10 +28,6 @@ or-sound f d e = rw e refl
 pub passes : (t : Bool) (r : Refusal) → fault t r ≡ Sound → t ≡ false
 passes true r e = absurd (let z : _≡_ {A = ℕ} 0 1 = cc in omega arith)
 passes false r e = refl
-
-pub neither : (s t : Bool) → (s || t) ≡ false → (s ≡ false) × (t ≡ false)
-neither true t e = absurd (let z : _≡_ {A = ℕ} 0 1 = cc in omega arith)
-neither false t e = (refl, e)
 
 holds : (t : Bool) → not t ≡ false → t ≡ true
 holds true e = refl

@@ -39,7 +39,8 @@ use Rattle.canvas.proofs.span.Spans.{span-holds}
 use Rattle.canvas.proofs.plot.Draws.{did-none}
 use Rattle.canvas.proofs.plot.Paints.{drawn-is}
 use Rattle.pixels.proofs.rows.Rows.{each-same}
-use Rattle.canvas.proofs.boxes.Boxes.{inks-each, spot-hit, pixels-hits, cut-run, neither, box-none, fill-none, pixels-le, fill-le}
+use Rattle.words.proofs.Either.{neither}
+use Rattle.canvas.proofs.boxes.Boxes.{inks-each, spot-hit, pixels-hits, cut-run, box-none, fill-none, pixels-le, fill-le}
 
 -- ---- what lands
 

@@ -19,7 +19,7 @@ use Rattle.canvas.specs.Plot.{Point}
 use Rattle.canvas.specs.Boxes.{fill, border, outline}
 use Rattle.canvas.specs.Strokes.{stroke, arc, edges, quarters, roundOutline}
 use Rattle.canvas.specs.Walk.{lowered}
-use Rattle.canvas.proofs.boxes.Boxes.{neither}
+use Rattle.words.proofs.Either.{neither}
 
 -- ---- arcs
 

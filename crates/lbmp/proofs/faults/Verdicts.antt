@@ -1,12 +1,13 @@
 -- The first of two faults; and a file with none is whole, as a whole file has none.
 use mathlib.Core.Path.{_≡_, refl, sym, ap, _∙_}
-use mathlib.Core.Bool.{Bool, true, false, _||_}
+use mathlib.Core.Bool.{Bool, true, false}
 use mathlib.Core.List.{List}
 use Prim.Native.Nat.{ℕ, _*_, _≤_, _<_}
 use native.Mathlib.Omega.{arith}
 use borrow.Author.Tests.{ltb-false, eqb-true, eqb-false, le-ltb, lt-ltb, eq-eqb, ne-eqb, not-false}
 use lib.Dec.{ltb}
 use lib.ListN.{length}
+use Rattle.words.proofs.Either.{neither}
 use Rattle.lbmp.specs.declared.Refusal.{Refusal}
 use Rattle.lbmp.specs.declared.Refusal.the-variants.{Invalid, BadType}
 use Rattle.lbmp.specs.declared.faults.Verdict.{Verdict}
@@ -37,10 +38,6 @@ both-sound (Faulty r) d e = absurd (let z : _≡_ {A = ℕ} 0 1 = cc in omega ar
 pub valid : (t : Bool) → invalid t ≡ Sound → t ≡ false
 valid true e = absurd (let z : _≡_ {A = ℕ} 0 1 = cc in omega arith)
 valid false e = refl
-
-neither : (s t : Bool) → (s || t) ≡ false → (s ≡ false) × (t ≡ false)
-neither true t e = absurd (let z : _≡_ {A = ℕ} 0 1 = cc in omega arith)
-neither false t e = (refl, e)
 
 pub area-known : (h : Header) → areaFault h ≡ Sound → h .width * h .height ≤ 4294967295
 unfolding areaFault

@@ -6,7 +6,8 @@ use lib.Dec.{eqb}
 use mir.Syntax.{w32}
 use mir.ValLaws.{toZ-ofZ}
 use Rattle.canvas.proofs.span.Lifts.{lowers, lift-lt}
-use Rattle.canvas.proofs.boxes.Boxes.{neither, some-sides}
+use Rattle.words.proofs.Either.{neither}
+use Rattle.canvas.proofs.boxes.Boxes.{some-sides}
 use Rattle.canvas.proofs.ovals.Sieves.{round-plain, round-sieve, did-same, ready-same}
 use borrow.Author.Needs.{needs}
 use Rattle.canvas.proofs.ovals.round_in.Statement.{statement}

@@ -8,7 +8,8 @@ use mir.ValLaws.{toZ-ofZ}
 use Rattle.canvas.proofs.span.Lifts.{lowers, lift-lt}
 use Rattle.words.specs.Ink.{inked}
 use Rattle.canvas.proofs.plot.Draws.{ready-few}
-use Rattle.canvas.proofs.boxes.Boxes.{neither, some-sides, inks-few}
+use Rattle.words.proofs.Either.{neither}
+use Rattle.canvas.proofs.boxes.Boxes.{some-sides, inks-few}
 use Rattle.canvas.proofs.boxes.Outline.{outline-le}
 use Rattle.canvas.proofs.ovals.Sieves.{did-same}
 use Rattle.canvas.proofs.strokes.Outlines.{outline-plain, outline-round}
