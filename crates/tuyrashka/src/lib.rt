@@ -12,6 +12,28 @@ use canvas::Clip;
 use canvas::Pixel;
 use pixels::Canvas;
 
+pub(crate) fn canvas_of(format: u32, width: u32, height: u32, xor: bool) -> Canvas
+    ensures { λ r. ⌜ r ≡ canvas format width height xor ⌝ }
+{
+    Canvas {
+        format: format,
+        width: width,
+        height: height,
+        xor: xor,
+    }
+}
+
+pub(crate) fn clip_of(x: i32, y: i32, w: u32, h: u32) -> Clip
+    ensures { λ r. ⌜ r ≡ clip x y w h ⌝ }
+{
+    Clip {
+        x: x,
+        y: y,
+        width: w,
+        height: h,
+    }
+}
+
 #[no_mangle]
 pub extern "C" fn tuyrashka_put_pixel(
     format: u32,
@@ -30,18 +52,8 @@ pub extern "C" fn tuyrashka_put_pixel(
 ) -> u32
     ensures { λ r. ⌜ outcome r (now (count .exit)) (now (bytes .exit)) ≡ call (canvas format width height xor) (putPixel x y (colorOf argb) (clip cx cy cw ch)) (now (bytes .entry)) ⌝ }
 {
-    let v = Canvas {
-        format: format,
-        width: width,
-        height: height,
-        xor: xor,
-    };
-    let c = Clip {
-        x: cx,
-        y: cy,
-        width: cw,
-        height: ch,
-    };
+    let v = canvas_of(format, width, height, xor);
+    let c = clip_of(cx, cy, cw, ch);
     let k = words::to_color(3, argb);
     let d = canvas::put_pixel(v, bytes, x, y, k, c);
     *count = d.count();
@@ -68,18 +80,8 @@ pub extern "C" fn tuyrashka_draw_line(
 ) -> u32
     ensures { λ r. ⌜ outcome r (now (count .exit)) (now (bytes .exit)) ≡ call (canvas format width height xor) (drawLine x1 y1 x2 y2 (colorOf argb) (clip cx cy cw ch)) (now (bytes .entry)) ⌝ }
 {
-    let v = Canvas {
-        format: format,
-        width: width,
-        height: height,
-        xor: xor,
-    };
-    let c = Clip {
-        x: cx,
-        y: cy,
-        width: cw,
-        height: ch,
-    };
+    let v = canvas_of(format, width, height, xor);
+    let c = clip_of(cx, cy, cw, ch);
     let k = words::to_color(3, argb);
     let d = canvas::draw_line(v, bytes, x1, y1, x2, y2, k, c);
     *count = d.count();
@@ -106,18 +108,8 @@ pub extern "C" fn tuyrashka_draw_rect(
 ) -> u32
     ensures { λ r. ⌜ outcome r (now (count .exit)) (now (bytes .exit)) ≡ call (canvas format width height xor) (drawRect x y w h (colorOf argb) (clip cx cy cw ch)) (now (bytes .entry)) ⌝ }
 {
-    let v = Canvas {
-        format: format,
-        width: width,
-        height: height,
-        xor: xor,
-    };
-    let c = Clip {
-        x: cx,
-        y: cy,
-        width: cw,
-        height: ch,
-    };
+    let v = canvas_of(format, width, height, xor);
+    let c = clip_of(cx, cy, cw, ch);
     let k = words::to_color(3, argb);
     let d = canvas::draw_rect(v, bytes, x, y, w, h, k, c);
     *count = d.count();
@@ -144,18 +136,8 @@ pub extern "C" fn tuyrashka_fill_rect(
 ) -> u32
     ensures { λ r. ⌜ outcome r (now (count .exit)) (now (bytes .exit)) ≡ call (canvas format width height xor) (fillRect x y w h (colorOf argb) (clip cx cy cw ch)) (now (bytes .entry)) ⌝ }
 {
-    let v = Canvas {
-        format: format,
-        width: width,
-        height: height,
-        xor: xor,
-    };
-    let c = Clip {
-        x: cx,
-        y: cy,
-        width: cw,
-        height: ch,
-    };
+    let v = canvas_of(format, width, height, xor);
+    let c = clip_of(cx, cy, cw, ch);
     let k = words::to_color(3, argb);
     let d = canvas::fill_rect(v, bytes, x, y, w, h, k, c);
     *count = d.count();
@@ -181,18 +163,8 @@ pub extern "C" fn tuyrashka_invert_rect(
 ) -> u32
     ensures { λ r. ⌜ outcome r (now (count .exit)) (now (bytes .exit)) ≡ invertRect (canvas format width height xor) x y w h (clip cx cy cw ch) (now (bytes .entry)) ⌝ }
 {
-    let v = Canvas {
-        format: format,
-        width: width,
-        height: height,
-        xor: xor,
-    };
-    let c = Clip {
-        x: cx,
-        y: cy,
-        width: cw,
-        height: ch,
-    };
+    let v = canvas_of(format, width, height, xor);
+    let c = clip_of(cx, cy, cw, ch);
     let d = canvas::invert_rect(v, bytes, x, y, w, h, c);
     *count = d.count();
     d.status()
@@ -212,24 +184,13 @@ pub extern "C" fn tuyrashka_get_pixel(
 ) -> u32
     ensures { λ r. ⌜ told r (now (found .exit)) (now (argb .exit)) ≡ tells (pixelAt (canvas format width height xor) (now (bytes .entry)) x y) ⌝ }
 {
-    let v = Canvas {
-        format: format,
-        width: width,
-        height: height,
-        xor: xor,
-    };
+    let v = canvas_of(format, width, height, xor);
     let p = canvas::get_pixel(v, bytes, x, y);
+    *found = 0;
+    *argb = 0;
     match p {
-        Pixel::Refused(r) => {
-            *found = 0;
-            *argb = 0;
-            r.number()
-        }
-        Pixel::Nothing => {
-            *found = 0;
-            *argb = 0;
-            0
-        }
+        Pixel::Refused(r) => r.number(),
+        Pixel::Nothing => 0,
         Pixel::Of(c) => {
             *found = 1;
             *argb = words::from_color(3, c);
@@ -259,32 +220,11 @@ pub extern "C" fn tuyrashka_copy_area(
 ) -> u32
     ensures { λ r. ⌜ outcome r (now (count .exit)) (now (bytes .exit)) ≡ copyArea (canvas format width height xor) dx dy sx sy w h (clip cx cy cw ch) (now (bytes .entry)) ⌝ }
 {
-    let v = Canvas {
-        format: format,
-        width: width,
-        height: height,
-        xor: xor,
-    };
-    let c = Clip {
-        x: cx,
-        y: cy,
-        width: cw,
-        height: ch,
-    };
+    let v = canvas_of(format, width, height, xor);
+    let c = clip_of(cx, cy, cw, ch);
     let d = canvas::copy_area(v, bytes, dx, dy, sx, sy, w, h, c);
     *count = d.count();
     d.status()
-}
-
-fn canvas_of(format: u32, width: u32, height: u32, xor: bool) -> Canvas
-    ensures { λ r. ⌜ r ≡ canvas format width height xor ⌝ }
-{
-    Canvas {
-        format: format,
-        width: width,
-        height: height,
-        xor: xor,
-    }
 }
 
 #[no_mangle]
@@ -314,12 +254,7 @@ pub extern "C" fn tuyrashka_draw(
 {
     let v = canvas_of(format, width, height, xor);
     let s = canvas_of(source_format, source_width, source_height, false);
-    let c = Clip {
-        x: cx,
-        y: cy,
-        width: cw,
-        height: ch,
-    };
+    let c = clip_of(cx, cy, cw, ch);
     let d = canvas::draw(v, bytes, dx, dy, w, h, s, image, sx, sy, c);
     *count = d.count();
     d.status()

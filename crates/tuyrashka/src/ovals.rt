@@ -2,8 +2,6 @@
 ghost use mathlib.Core.Path.{_≡_};
 ghost use Rattle.canvas.specs.Call.{drawArc, fillArc, drawRoundRect, fillRoundRect, outcome, call};
 ghost use Rattle.tuyrashka.specs.Exported.{canvas, clip, colorOf};
-use canvas::Clip;
-use pixels::Canvas;
 
 #[no_mangle]
 pub extern "C" fn tuyrashka_draw_arc(
@@ -27,18 +25,8 @@ pub extern "C" fn tuyrashka_draw_arc(
 ) -> u32
     ensures { λ r. ⌜ outcome r (now (count .exit)) (now (bytes .exit)) ≡ call (canvas format width height xor) (drawArc x y w h start arc (colorOf argb) (clip cx cy cw ch)) (now (bytes .entry)) ⌝ }
 {
-    let v = Canvas {
-        format: format,
-        width: width,
-        height: height,
-        xor: xor,
-    };
-    let c = Clip {
-        x: cx,
-        y: cy,
-        width: cw,
-        height: ch,
-    };
+    let v = crate::canvas_of(format, width, height, xor);
+    let c = crate::clip_of(cx, cy, cw, ch);
     let k = words::to_color(3, argb);
     let d = canvas::draw_arc(v, bytes, x, y, w, h, start, arc, k, c);
     *count = d.count();
@@ -67,18 +55,8 @@ pub extern "C" fn tuyrashka_fill_arc(
 ) -> u32
     ensures { λ r. ⌜ outcome r (now (count .exit)) (now (bytes .exit)) ≡ call (canvas format width height xor) (fillArc x y w h start arc (colorOf argb) (clip cx cy cw ch)) (now (bytes .entry)) ⌝ }
 {
-    let v = Canvas {
-        format: format,
-        width: width,
-        height: height,
-        xor: xor,
-    };
-    let c = Clip {
-        x: cx,
-        y: cy,
-        width: cw,
-        height: ch,
-    };
+    let v = crate::canvas_of(format, width, height, xor);
+    let c = crate::clip_of(cx, cy, cw, ch);
     let k = words::to_color(3, argb);
     let d = canvas::fill_arc(v, bytes, x, y, w, h, start, arc, k, c);
     *count = d.count();
@@ -107,18 +85,8 @@ pub extern "C" fn tuyrashka_draw_round_rect(
 ) -> u32
     ensures { λ r. ⌜ outcome r (now (count .exit)) (now (bytes .exit)) ≡ call (canvas format width height xor) (drawRoundRect x y w h aw ah (colorOf argb) (clip cx cy cw ch)) (now (bytes .entry)) ⌝ }
 {
-    let v = Canvas {
-        format: format,
-        width: width,
-        height: height,
-        xor: xor,
-    };
-    let c = Clip {
-        x: cx,
-        y: cy,
-        width: cw,
-        height: ch,
-    };
+    let v = crate::canvas_of(format, width, height, xor);
+    let c = crate::clip_of(cx, cy, cw, ch);
     let k = words::to_color(3, argb);
     let d = canvas::draw_round_rect(v, bytes, x, y, w, h, aw, ah, k, c);
     *count = d.count();
@@ -147,18 +115,8 @@ pub extern "C" fn tuyrashka_fill_round_rect(
 ) -> u32
     ensures { λ r. ⌜ outcome r (now (count .exit)) (now (bytes .exit)) ≡ call (canvas format width height xor) (fillRoundRect x y w h aw ah (colorOf argb) (clip cx cy cw ch)) (now (bytes .entry)) ⌝ }
 {
-    let v = Canvas {
-        format: format,
-        width: width,
-        height: height,
-        xor: xor,
-    };
-    let c = Clip {
-        x: cx,
-        y: cy,
-        width: cw,
-        height: ch,
-    };
+    let v = crate::canvas_of(format, width, height, xor);
+    let c = crate::clip_of(cx, cy, cw, ch);
     let k = words::to_color(3, argb);
     let d = canvas::fill_round_rect(v, bytes, x, y, w, h, aw, ah, k, c);
     *count = d.count();

@@ -1,10 +1,15 @@
 -- The call of the canvas, its answer read in numbers.
 use Rattle.canvas.specs.Areas.{copyArea}
-use Rattle.tuyrashka.specs.Exported.{canvas}
-use Rattle.tuyrashka.proofs.Answers.{answers-from}
+use Rattle.tuyrashka.proofs.Answers.{answers}
 use borrow.Author.Needs.{needs}
 use Rattle.tuyrashka.proofs.tuyrashka_copy_area.Statement.{statement}
 use Rattle.tuyrashka.proofs.tuyrashka_copy_area.Tie as tie
+
+canvas-of-requires : tie.Need-canvas-of-requires
+canvas-of-requires c κs = search needs
+
+clip-of-requires : tie.Need-clip-of-requires
+clip-of-requires c κs = search needs
 
 copy-area-requires : tie.Need-copy-area-requires
 copy-area-requires c κs = search needs
@@ -19,7 +24,19 @@ same-length : tie.Need-same-length
 same-length c = search needs
 
 returns : tie.Need-returns
-returns c = answers-from (c .before .before .before .before .copy-area .last .1 .0) (λ x y i j z. copyArea (canvas (c .before .before .before .before .before .before .before .args .format) (c .before .before .before .before .before .before .before .args .width) (c .before .before .before .before .before .before .before .args .height) (c .before .before .before .before .before .before .before .args .xor)) x y i j (c .before .before .before .before .before .before .before .args .w) (c .before .before .before .before .before .before .before .args .h) z (c .before .before .before .before .before .before .before .args .bytes .now)) (c .before .before .before .before .before .before .before .args .dx) (c .before .before .before .before .before .before .before .args .dy) (c .before .before .before .before .before .before .before .args .sx) (c .before .before .before .before .before .before .before .args .sy) (c .before .before .before .before .before .before .before .args .cx) (c .before .before .before .before .before .before .before .args .cy) (c .before .before .before .before .before .before .before .args .cw) (c .before .before .before .before .before .before .before .args .ch) _ _ _ (c .before .before .before .before .before .before .before .fits .dx) (c .before .before .before .before .before .before .before .fits .dy) (c .before .before .before .before .before .before .before .fits .sx) (c .before .before .before .before .before .before .before .fits .sy) (c .before .before .before .before .before .before .before .fits .cx) (c .before .before .before .before .before .before .before .fits .cy) (c .status .ensures) (c .before .count .ensures) (c .before .before .before .before .copy-area .ensures)
+returns c =
+    let a = c .before .before .before .before .before .before .before .before .before .args in
+    let f = c .before .before .before .before .before .before .before .before .before .fits in
+    answers (c .before .before .before .before .copy-area .result) (λ v x y i j z. copyArea v x y i j (a .w) (a .h) z (a .bytes .now)) (f .dx) (f .dy) (f .sx) (f .sy) (f .cx) (f .cy) (c .before .before .before .before .before .before .before .canvas-of .ensures) (c .before .before .before .before .before .before .clip-of .ensures) (c .status .ensures) (c .before .count .ensures) (c .before .before .before .before .copy-area .ensures)
 
 pub tuyrashka-copy-area-spec : {M : Type 1} → statement M
-tuyrashka-copy-area-spec = tie.close (tie.spec copy-area-requires count-requires status-requires same-length returns)
+tuyrashka-copy-area-spec =
+    tie.close
+    (tie.spec
+    canvas-of-requires
+    clip-of-requires
+    copy-area-requires
+    count-requires
+    status-requires
+    same-length
+    returns)

@@ -2,11 +2,14 @@
 use mathlib.Core.Path.{refl}
 use Rattle.words.specs.Format.{formatOf}
 use Rattle.canvas.specs.Look.{statusOf, seenOf}
-use Rattle.tuyrashka.specs.Exported.{canvas, told, tells}
+use Rattle.tuyrashka.specs.Exported.{tells}
 use Rattle.tuyrashka.proofs.Answers.{shows}
 use borrow.Author.Needs.{needs}
 use Rattle.tuyrashka.proofs.tuyrashka_get_pixel.Statement.{statement}
 use Rattle.tuyrashka.proofs.tuyrashka_get_pixel.Tie as tie
+
+canvas-of-requires : tie.Need-canvas-of-requires
+canvas-of-requires c κs = search needs
 
 get-pixel-requires : tie.Need-get-pixel-requires
 get-pixel-requires c κs = search needs
@@ -28,20 +31,21 @@ from-color-requires c κs = search needs
 
 returns : tie.Need-returns
 unfolding statusOf seenOf tells
-returns c = shows (canvas (c .before .before .before .before .before .before .args .format) (c .before .before .before .before .before .before .args .width) (c .before .before .before .before .before .before .args .height) (c .before .before .before .before .before .before .args .xor)) (c .before .before .before .before .before .before .args .bytes .now) (c .before .before .before .before .before .before .args .x) (c .before .before .before .before .before .before .args .y) (c .before .before .before .before .get-pixel .result) (told (c .number .result) 0 0) (c .before .before .before .before .before .before .fits .x) (c .before .before .before .before .before .before .fits .y) (rw (c .before .before .p .given .1, c .number .ensures) refl) (c .before .before .before .before .get-pixel .ensures)
+returns c = shows (c .before .before .before .before .before .before .before .args .bytes .now) (c .before .before .before .before .get-pixel .result) (c .before .before .before .before .before .before .before .fits .x) (c .before .before .before .before .before .before .before .fits .y) (c .before .before .before .before .before .canvas-of .ensures) (rw (c .before .before .p .given .1, c .number .ensures) refl) (c .before .before .before .before .get-pixel .ensures)
 
 returns-2 : tie.Need-returns-2
 unfolding statusOf seenOf tells
-returns-2 c = shows (canvas (c .before .before .before .before .args .format) (c .before .before .before .before .args .width) (c .before .before .before .before .args .height) (c .before .before .before .before .args .xor)) (c .before .before .before .before .args .bytes .now) (c .before .before .before .before .args .x) (c .before .before .before .before .args .y) (c .before .before .get-pixel .result) (told 0 0 0) (c .before .before .before .before .fits .x) (c .before .before .before .before .fits .y) (rw (c .enum-told .given .1) refl) (c .before .before .get-pixel .ensures)
+returns-2 c = shows (c .before .before .before .before .before .args .bytes .now) (c .before .before .get-pixel .result) (c .before .before .before .before .before .fits .x) (c .before .before .before .before .before .fits .y) (c .before .before .before .canvas-of .ensures) (rw (c .enum-told .given .1) refl) (c .before .before .get-pixel .ensures)
 
 returns-3 : tie.Need-returns-3
 unfolding statusOf seenOf tells formatOf
-returns-3 c = shows (canvas (c .before .before .before .before .before .before .args .format) (c .before .before .before .before .before .before .args .width) (c .before .before .before .before .before .before .args .height) (c .before .before .before .before .before .before .args .xor)) (c .before .before .before .before .before .before .args .bytes .now) (c .before .before .before .before .before .before .args .x) (c .before .before .before .before .before .before .args .y) (c .before .before .before .before .get-pixel .result) (told 0 1 (c .from-color .result)) (c .before .before .before .before .before .before .fits .x) (c .before .before .before .before .before .before .fits .y) (rw (c .before .before .p2 .given .1, c .from-color .ensures) refl) (c .before .before .before .before .get-pixel .ensures)
+returns-3 c = shows (c .before .before .before .before .before .before .before .args .bytes .now) (c .before .before .before .before .get-pixel .result) (c .before .before .before .before .before .before .before .fits .x) (c .before .before .before .before .before .before .before .fits .y) (c .before .before .before .before .before .canvas-of .ensures) (rw (c .before .before .p2 .given .1, c .from-color .ensures) refl) (c .before .before .before .before .get-pixel .ensures)
 
 pub tuyrashka-get-pixel-spec : {M : Type 1} → statement M
 tuyrashka-get-pixel-spec =
     tie.close
     (tie.spec
+    canvas-of-requires
     get-pixel-requires
     enum-known-p
     number-requires

@@ -1,10 +1,15 @@
 -- The call of the canvas, its answer read in numbers.
 use Rattle.canvas.specs.Areas.{invertRect}
-use Rattle.tuyrashka.specs.Exported.{canvas}
 use Rattle.tuyrashka.proofs.Answers.{answers}
 use borrow.Author.Needs.{needs}
 use Rattle.tuyrashka.proofs.tuyrashka_invert_rect.Statement.{statement}
 use Rattle.tuyrashka.proofs.tuyrashka_invert_rect.Tie as tie
+
+canvas-of-requires : tie.Need-canvas-of-requires
+canvas-of-requires c κs = search needs
+
+clip-of-requires : tie.Need-clip-of-requires
+clip-of-requires c κs = search needs
 
 invert-rect-requires : tie.Need-invert-rect-requires
 invert-rect-requires c κs = search needs
@@ -19,7 +24,19 @@ same-length : tie.Need-same-length
 same-length c = search needs
 
 returns : tie.Need-returns
-returns c = answers (c .before .before .before .before .invert-rect .last .1 .0) (λ x y z. invertRect (canvas (c .before .before .before .before .before .before .before .args .format) (c .before .before .before .before .before .before .before .args .width) (c .before .before .before .before .before .before .before .args .height) (c .before .before .before .before .before .before .before .args .xor)) x y (c .before .before .before .before .before .before .before .args .w) (c .before .before .before .before .before .before .before .args .h) z (c .before .before .before .before .before .before .before .args .bytes .now)) (c .before .before .before .before .before .before .before .args .x) (c .before .before .before .before .before .before .before .args .y) (c .before .before .before .before .before .before .before .args .cx) (c .before .before .before .before .before .before .before .args .cy) (c .before .before .before .before .before .before .before .args .cw) (c .before .before .before .before .before .before .before .args .ch) _ _ _ (c .before .before .before .before .before .before .before .fits .x) (c .before .before .before .before .before .before .before .fits .y) (c .before .before .before .before .before .before .before .fits .cx) (c .before .before .before .before .before .before .before .fits .cy) (c .status .ensures) (c .before .count .ensures) (c .before .before .before .before .invert-rect .ensures)
+returns c =
+    let a = c .before .before .before .before .before .before .before .before .before .args in
+    let f = c .before .before .before .before .before .before .before .before .before .fits in
+    answers (c .before .before .before .before .invert-rect .result) (λ v x y _ _ z. invertRect v x y (a .w) (a .h) z (a .bytes .now)) (f .x) (f .y) (f .x) (f .y) (f .cx) (f .cy) (c .before .before .before .before .before .before .before .canvas-of .ensures) (c .before .before .before .before .before .before .clip-of .ensures) (c .status .ensures) (c .before .count .ensures) (c .before .before .before .before .invert-rect .ensures)
 
 pub tuyrashka-invert-rect-spec : {M : Type 1} → statement M
-tuyrashka-invert-rect-spec = tie.close (tie.spec invert-rect-requires count-requires status-requires same-length returns)
+tuyrashka-invert-rect-spec =
+    tie.close
+    (tie.spec
+    canvas-of-requires
+    clip-of-requires
+    invert-rect-requires
+    count-requires
+    status-requires
+    same-length
+    returns)
