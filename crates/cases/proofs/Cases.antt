@@ -1,17 +1,17 @@
 -- The bytes that a canvas has fit the room exactly where its area is at most the room divided by a pixel's size.
-use mathlib.Core.Bool.{true, false, not, _||_}
+use mathlib.Core.Bool.{Bool, true, false, not, _||_, cond}
 use mathlib.Core.Logic.{_⊎_, inl, inr}
-use mathlib.Core.List.{List, _++_}
-use mathlib.Core.Path.{_≡_, refl, sym, _∙_, ap}
+use mathlib.Core.List.{List, [], _∷_, _++_}
+use mathlib.Core.Path.{_≡_, refl, sym, _∙_, ap, subst}
 use Prim.Native.Nat.{ℕ, zero, suc, _+_, _*_, _/_, _-_, _^_, _<_, _≤_}
 use native.Mathlib.Decide.{decLe, ℕ-discrete}
 use native.Mathlib.Nat.{div-lt-iff-lt-mul, le-div-iff-mul-le, mul-le-mul, lt-of-not-le}
 use native.Mathlib.Omega.{arith}
 use lib.ListN.{length, take, drop, length-append}
-use lib.Dec.{ltb, eqb}
+use lib.Dec.{ltb, leb, eqb}
 use lib.Seq.{length-take-le}
-use borrow.Author.Tests.{le-leb, lt-leb, eq-eqb, ne-eqb, ltb-true, ltb-false, eqb-true, eqb-false, not-true, not-false}
-use Rattle.cases.specs.Line.{Value, value, none, wordsOf}
+use borrow.Author.Tests.{leb-true, le-leb, lt-leb, eq-eqb, ne-eqb, ltb-true, ltb-false, eqb-true, eqb-false, not-true, not-false}
+use Rattle.cases.specs.Line.{Left, words, lost, Value, value, none, wordsOf}
 use Rattle.cases.specs.Number.{nameOf}
 use Rattle.cases.specs.Place.{leftAt, pairs, readArgs, readName, kindsIn}
 use Rattle.cases.specs.Row.{Args, head, rowOf, argsOf}
@@ -74,8 +74,10 @@ pub laid-start : (g : Sown) (n : ℕ) (bytes : List ℕ) {t : List ℕ} → n �
     → t ++ drop n bytes ≡ firstBytes g n ++ drop n bytes
 laid-start g n bytes l p = rw (p, length-take-le n bytes l)
 
-pub room : (k l n m : ℕ) → (ltb k n || ltb l m) ≡ false → (n ≤ k) × (m ≤ l)
-room k l n m t = let o = neither (ltb k n) (ltb l m) t in (ltb-false k n (o .0), ltb-false l m (o .1))
+pub room : (b : Bool) (k l n m : ℕ) → ((b || ltb k n) || ltb l m) ≡ false → (n ≤ k) × (m ≤ l)
+room b k l n m t =
+    let o = neither (b || ltb k n) (ltb l m) t in
+    (ltb-false k n (neither b (ltb k n) (o .0) .1), ltb-false l m (o .1))
 
 -- Both are laid out, or neither is.
 module _ (op : ℕ) (h r : Args) (bytes image : List ℕ) (n m : ℕ) (e : fitting (length bytes) n ≡ lentAt (length bytes) 0 h)
@@ -103,14 +105,21 @@ module _ (op : ℕ) (h r : Args) (bytes image : List ℕ) (n m : ℕ) (e : fitti
       second-none (lentAt (length bytes) 0 h) ∙
       ap (λ (w : Value ℕ). both (lentAt (length bytes) 0 h) w) (sym (over (length image) m (ltb-true (length image) m t)) ∙ f)
 
-  pub no-room : (ltb (length bytes) n || ltb (length image) m) ≡ true → bad ≡ both (lentAt (length bytes) 0 h) (lentAt (length image) 4 r)
-  no-room t = short-by (either (ltb (length bytes) n) (ltb (length image) m) t)
+  abbrev end : Outcome
+  end = both (lentAt (length bytes) 0 h) (lentAt (length image) 4 r)
 
-  pub laid-both : {t u : List ℕ} → (n ≤ length bytes) × (m ≤ length image) → t ≡ firstBytes (h .seed) n ++ drop n bytes → u ≡ firstBytes (r .seed) m ++ drop m image
-      → (record { name = op; head = h .numbers; args = r .numbers; bytes = n; image = m }, t, u)
-      ≡ both (lentAt (length bytes) 0 h) (lentAt (length image) 4 r)
+  pub no-room : (b : Bool) → ((b || ltb (length bytes) n) || ltb (length image) m) ≡ true → bad ≡ cond b bad end
+  no-room true t = refl
+  no-room false t = short-by (either (ltb (length bytes) n) (ltb (length image) m) t)
+
+  pub laid-both : {t u : List ℕ} (b : Bool) → ((b || ltb (length bytes) n) || ltb (length image) m) ≡ false
+      → t ≡ firstBytes (h .seed) n ++ drop n bytes → u ≡ firstBytes (r .seed) m ++ drop m image
+      → (record { name = op; head = h .numbers; args = r .numbers; bytes = n; image = m }, t, u) ≡ cond b bad end
   unfolding laid fitting
-  laid-both l p q = rw (p, q) (sym (rw (← e, ← f, le-leb n (length bytes) (l .0), le-leb m (length image) (l .1))))
+  laid-both b w p q =
+      let l = room b (length bytes) (length image) n m w in
+      let k : b ≡ false = neither b (ltb (length bytes) n) (neither (b || ltb (length bytes) n) (ltb (length image) m) w .0) .0 in
+      rw (p, q, k) (sym (rw (← e, ← f, le-leb n (length bytes) (l .0), le-leb m (length image) (l .1))))
 
 -- The head, the name and the row one after the other are the case.
 module _ (line bytes image : List ℕ) (h : Taken) (o : Name) (k : ℕ) (e : readArgs line h ≡ argsOf (kindsIn 16 0xeeebd00000000000) (leftAt line 0))
@@ -150,12 +159,64 @@ module _ (line bytes image : List ℕ) (h : Taken) (o : Name) (k : ℕ) (e : rea
     bad-by (inl t) (no n) = no-op (eqb-true k 0 t)
     bad-by (inr t) (no n) = no-row-ends n r i (eqb-false (r .next) (length line + 1) (not-true (eqb (r .next) (length line + 1)) t))
 
-    pub bad-line : (eqb k 0 || not (eqb (r .next) (length line + 1))) ≡ true → (noCase, bytes, image) ≡ caseOf line bytes image
+    bad-line : (eqb k 0 || not (eqb (r .next) (length line + 1))) ≡ true → (noCase, bytes, image) ≡ caseOf line bytes image
     bad-line t = bad-by (either (eqb k 0) (not (eqb (r .next) (length line + 1))) t) (ℕ-discrete k 0)
 
-    pub good-line : {x : Outcome} → (eqb k 0 || not (eqb (r .next) (length line + 1))) ≡ false
+    good-line : {x : Outcome} → (eqb k 0 || not (eqb (r .next) (length line + 1))) ≡ false
         → x ≡ laid (o .letters) (readArgs line h .value) (readArgs line r .value) (lentAt (length bytes) 0 (readArgs line h .value)) (lentAt (length image) 4 (readArgs line r .value)) bytes image
         → x ≡ caseOf line bytes image
     good-line t p =
         let q = neither (eqb k 0) (not (eqb (r .next) (length line + 1))) t in
         laid-out (eqb-false k 0 (q .0)) r i (eqb-true (r .next) (length line + 1) (not-false (eqb (r .next) (length line + 1)) (q .1))) p
+
+    pub any-line : {x : Outcome} (b : Bool) → (eqb k 0 || not (eqb (r .next) (length line + 1))) ≡ b
+        → x ≡ cond b (noCase, bytes, image) (laid (o .letters) (readArgs line h .value) (readArgs line r .value) (lentAt (length bytes) 0 (readArgs line h .value)) (lentAt (length image) 4 (readArgs line r .value)) bytes image)
+        → x ≡ caseOf line bytes image
+    any-line true t p = p ∙ bad-line t
+    any-line false t p = good-line t p
+
+-- What a case holds of each is within what is lent.
+unfoldable Under : ℕ → Value ℕ → Type 0
+Under room (value n) = n ≤ room
+Under room none = Unit {0}
+
+module _ (bytes image : List ℕ) where
+  abbrev Fits : Outcome → Type 0
+  Fits x = (x .0 .bytes ≤ length bytes) × (x .0 .image ≤ length image)
+
+  no-case-fits : Fits (noCase, bytes, image)
+  no-case-fits = (omega arith, omega arith)
+
+  fitting-by : (room n : ℕ) (b : Bool) → leb n room ≡ b → Under room (cond b (value n) none)
+  unfolding Under
+  fitting-by room n true e = leb-true n room e
+  fitting-by room n false e = tt
+
+  under : (room : ℕ) (v : Value ℕ) → Under room (capped room v)
+  unfolding capped fitting Under
+  under room (value n) = fitting-by room n (leb n room) refl
+  under room none = tt
+
+  laid-fits : (op : ℕ) (h r : Args) (v w : Value ℕ) → Under (length bytes) v → Under (length image) w → Fits (laid op h r v w bytes image)
+  unfolding laid Under
+  laid-fits op h r (value n) (value m) a b = (a, b)
+  laid-fits op h r (value n) none a b = no-case-fits
+  laid-fits op h r none w a b = no-case-fits
+
+  whole-fits : (l : Left) (x : Outcome) → Fits x → Fits (whole l x (noCase, bytes, image))
+  unfolding whole
+  whole-fits (words []) x a = a
+  whole-fits (words (w ∷ ws)) x a = no-case-fits
+  whole-fits lost x a = no-case-fits
+
+  known-fits : (ks : List ℕ) (x : Outcome) → Fits x → Fits (known ks x (noCase, bytes, image))
+  unfolding known
+  known-fits [] x a = no-case-fits
+  known-fits (k ∷ ks) x a = a
+
+  of-line : (line : List ℕ) → Fits (caseOf line bytes image)
+  unfolding caseOf called
+  of-line line = known-fits _ _ (whole-fits _ _ (laid-fits _ _ _ _ _ (under (length bytes) _) (under (length image) _)))
+
+  pub case-fits : (line : List ℕ) {x : Outcome} → x ≡ caseOf line bytes image → Fits x
+  case-fits line e = subst Fits (sym e) (of-line line)

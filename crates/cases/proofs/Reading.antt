@@ -1,19 +1,19 @@
 -- Reading by index is reading by words: a letter goes over to the rule, a space or the line's end closes the word.
-use mathlib.Core.Bool.{Bool, true, false, cond}
+use mathlib.Core.Bool.{Bool, true, false, cond, _&&_}
 use mathlib.Core.List.{List, [], _∷_}
-use mathlib.Core.Path.{_≡_, refl, sym, _∙_, ap}
+use mathlib.Core.Path.{_≡_, refl, sym, _∙_, ap, subst}
 use mathlib.Core.Logic.{_⊎_, inl, inr}
 use Prim.Native.Nat.{ℕ, _+_, _≤_, _<_}
 use native.Mathlib.Nat.{eq-or-lt-of-le, lt-of-not-le}
 use native.Mathlib.Decide.{decLe, ℕ-discrete}
 use native.Mathlib.Numerals.{add-one}
 use native.Mathlib.Omega.{arith}
-use lib.Dec.{eqb}
+use lib.Dec.{T, eqb}
 use lib.ListN.{length, drop, getD}
 use lib.Seq.{drop-cons, drop-length}
-use borrow.Author.Tests.{le-leb, lt-leb, eq-eqb, ne-eqb}
+use borrow.Author.Tests.{le-leb, lt-leb, eq-eqb, ne-eqb, eqb-true, eqb-false}
 use Rattle.cases.specs.Line.{firstWord, otherWords, Left, words, lost, wordsOf, Value, none, Got, got, after, next, orElse, firstOf}
-use Rattle.cases.specs.Place.{leftAt}
+use Rattle.cases.specs.Place.{leftAt, wordEnds}
 
 pub inside : (line : List ℕ) (i : ℕ) → i ≤ length line → leftAt line i ≡ wordsOf (drop i line)
 unfolding leftAt
@@ -70,6 +70,47 @@ module _ {A : Type 0} (d : A) (f : List ℕ → Value A) where
   alike g e (words []) = refl
   alike g e (words (w ∷ ws)) = rw (e w)
   alike g e lost = refl
+
+pub each : (s t : Bool) → (s && t) ≡ true → (s ≡ true) × (t ≡ true)
+each true t e = (refl, e)
+each false t e = absurd (subst T (sym e) tt)
+
+-- A word ends at an index, or goes on there, or none is left.
+module _ (line : List ℕ) (i : ℕ) where
+  end-by : Dec (length line ≤ i) → wordEnds line i ≡ true → (i ≡ length line) ⊎ ((i < length line) × (getD line i 0 ≡ 32))
+  unfolding wordEnds
+  end-by (yes l) e = inl (eqb-true i (length line) (rw (le-leb (length line) i l) at e))
+  end-by (no n) e =
+      let l : i < length line = lt-of-not-le n in
+      inr (l, eqb-true (getD line i 0) 32 (rw (lt-leb (length line) i l) at e))
+
+  within-by : (i ≡ length line) ⊎ ((i < length line) × (getD line i 0 ≡ 32)) → i ≤ length line
+  within-by (inl e) = omega arith
+  within-by (inr l) = omega (arith, l .0)
+
+  pub end-within : wordEnds line i ≡ true → i ≤ length line
+  end-within e = within-by (end-by (decLe (length line) i) e)
+
+  closed-by : {A : Type 0} (d : A) (f : List ℕ → Value A) → (i ≡ length line) ⊎ ((i < length line) × (getD line i 0 ≡ 32))
+      → next d f (leftAt line i) ≡ after d (f []) (leftAt line (i + 1))
+  closed-by d f (inl e) = last d f line i e
+  closed-by d f (inr l) = space d f line i (l .0) (l .1)
+
+  pub word-end : {A : Type 0} (d : A) (f : List ℕ → Value A) → wordEnds line i ≡ true
+      → next d f (leftAt line i) ≡ after d (f []) (leftAt line (i + 1))
+  word-end d f e = closed-by d f (end-by (decLe (length line) i) e)
+
+  no-end-by : Dec (length line ≤ i) → wordEnds line i ≡ false → (length line < i) ⊎ ((i < length line) × (getD line i 0 ≡ 32 → ⊥))
+  unfolding wordEnds
+  no-end-by (yes l) e =
+      let n : i ≡ length line → ⊥ = eqb-false i (length line) (rw (le-leb (length line) i l) at e) in
+      inl (omega (arith, l, n))
+  no-end-by (no n) e =
+      let l : i < length line = lt-of-not-le n in
+      inr (l, eqb-false (getD line i 0) 32 (rw (lt-leb (length line) i l) at e))
+
+  pub no-end : wordEnds line i ≡ false → (length line < i) ⊎ ((i < length line) × (getD line i 0 ≡ 32 → ⊥))
+  no-end e = no-end-by (decLe (length line) i) e
 
 found-by : {A : Type 0} (a b : A) (line : List ℕ) (i : ℕ) → i < length line + 2 → Dec (i ≤ length line) → orElse (leftAt line i) a b ≡ a
 unfolding orElse wordsOf

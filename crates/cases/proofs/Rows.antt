@@ -1,11 +1,13 @@
 -- The kinds that a number holds are those of a row, taken one by one.
+use mathlib.Core.Bool.{Bool, true, false, not, _&&_}
 use mathlib.Core.List.{List, []}
 use mathlib.Core.Logic.{_⊎_, inl, inr}
-use mathlib.Core.Path.{_≡_, refl, sym, ap}
+use mathlib.Core.Path.{_≡_, refl, sym, ap, subst}
 use Prim.Native.Nat.{ℕ, zero, suc, _+_, _-_, _*_, _/_, _%_, _<_, _≤_}
 use native.Mathlib.Omega.{arith}
+use lib.Dec.{T, ltb, eqb}
 use lib.ListN.{set}
-use borrow.Author.Tests.{eq-eqb, ne-eqb}
+use borrow.Author.Tests.{eq-eqb, ne-eqb, ltb-true, ltb-false, eqb-true, eqb-false}
 use Rattle.cases.specs.Line.{Got}
 use Rattle.cases.specs.Number.{numeric}
 use Rattle.cases.specs.Place.{leftAt, read, readSeed, readArgs, kindsIn}
@@ -40,7 +42,7 @@ module _ (i rest : ℕ) (g : Got Args) where
   none-in zero z = refl
   none-in (suc k) z = rw (eq-eqb rest 0 z)
 
-  pub no-more : rest ≡ 0 → argsFrom i (kindsIn (16 - i) rest) g ≡ g
+  no-more : rest ≡ 0 → argsFrom i (kindsIn (16 - i) rest) g ≡ g
   unfolding argsFrom
   no-more z = ap (λ (ks : List ℕ). argsFrom i ks g) (none-in (16 - i) z)
 
@@ -50,9 +52,26 @@ module _ (i rest : ℕ) (g : Got Args) where
   unfolding argsFrom kindsIn
   one-more n h = let z : 16 - i ≡ suc (16 - (i + 1)) = omega arith in rw (z, ne-eqb rest 0 n)
 
-  pub all-read : 16 ≤ i → argsFrom i (kindsIn (16 - i) rest) g ≡ g
+  all-read : 16 ≤ i → argsFrom i (kindsIn (16 - i) rest) g ≡ g
   unfolding argsFrom kindsIn
   all-read h = let z : 16 - i ≡ 0 = omega arith in rw z
+
+  -- The test of each turn: a word is left of the sixteen, and a kind of the row.
+  on-by : (s t : Bool) → ltb i 16 ≡ s → eqb rest 0 ≡ t → (s && not t) ≡ true → (i < 16) × (rest ≡ 0 → ⊥)
+  on-by true false p q e = (ltb-true i 16 p, eqb-false rest 0 q)
+  on-by true true p q e = absurd (subst T (sym e) tt)
+  on-by false t p q e = absurd (subst T (sym e) tt)
+
+  pub on : (ltb i 16 && not (eqb rest 0)) ≡ true → (i < 16) × (rest ≡ 0 → ⊥)
+  on e = on-by (ltb i 16) (eqb rest 0) refl refl e
+
+  end-by : (s t : Bool) → ltb i 16 ≡ s → eqb rest 0 ≡ t → (s && not t) ≡ false → argsFrom i (kindsIn (16 - i) rest) g ≡ g
+  end-by true true p q e = no-more (eqb-true rest 0 q)
+  end-by true false p q e = absurd (subst T e tt)
+  end-by false t p q e = all-read (ltb-false i 16 p)
+
+  pub end : (ltb i 16 && not (eqb rest 0)) ≡ false → argsFrom i (kindsIn (16 - i) rest) g ≡ g
+  end e = end-by (ltb i 16) (eqb rest 0) refl refl e
 
 -- An argument is taken by its kind.
 module _ (line : List ℕ) (i k : ℕ) (a : Taken) where

@@ -1,24 +1,23 @@
 -- Hex digits are read two by two: the bytes so far stand before those to come.
-use mathlib.Core.Bool.{true, false, _||_}
+use mathlib.Core.Bool.{true, false}
 use mathlib.Core.Logic.{_⊎_, inl, inr}
 use mathlib.Core.List.{List, [], _∷_, _++_, append-assoc, append-nil}
-use mathlib.Core.Path.{_≡_, refl, sym, _∙_, ap}
+use mathlib.Core.Path.{_≡_, refl, sym, _∙_, ap, subst}
 use Prim.Native.Nat.{ℕ, zero, suc, _+_, _*_, _<_, _≤_}
 use native.Mathlib.Numerals.{add-one}
 use native.Mathlib.Decide.{decLe}
 use native.Mathlib.Nat.{lt-of-not-le}
 use native.Mathlib.Omega.{arith}
-use lib.Dec.{ltb}
+use lib.Dec.{T, ltb}
 use lib.ListN.{length, getD, replicate}
-use borrow.Author.Tests.{lt-ltb, le-ltb, eq-eqb, ne-eqb, ltb-true, ltb-false, eqb-false}
+use borrow.Author.Tests.{le-leb, lt-leb, lt-ltb, le-ltb, eq-eqb, ne-eqb, ltb-true, eqb-false}
 use Rattle.cases.specs.Line.{Left, words, lost, Value, value, none, Got, got, after, next}
-use Rattle.cases.specs.Place.{leftAt, pairs, Within, Fills}
+use Rattle.cases.specs.Place.{leftAt, wordEnds, twoDigits, pairs, Within, Fills}
 use Rattle.cases.specs.Seed.{Sown, zeros, counted, given, nibble, byte, before, hexes, givenBy, givenHex, countedBy, sowing, seedOf, filled, fileOf, turns}
 use Rattle.cases.specs.Number.{natural, numberOf, nameOf}
 use Rattle.cases.specs.declared.seed.Seed.{Seed}
 use Rattle.cases.specs.declared.seed.Seed.the-variants.{Bytes}
-use Rattle.words.proofs.Either.{either, neither}
-use Rattle.cases.proofs.Reading.{letter, alike, refused, barred, short, empty, matched}
+use Rattle.cases.proofs.Reading.{letter, nothing, alike, refused, barred, each, no-end, short, empty, matched}
 
 -- What is still to be read after the first bytes.
 abbrev pub rest : List ℕ → List ℕ → Value Sown
@@ -35,7 +34,7 @@ before-none (value bs) = refl
 before-none none = refl
 
 -- 32 is no hex digit.
-pub no-space : (b : ℕ) → nibble b < 16 → b ≡ 32 → ⊥
+no-space : (b : ℕ) → nibble b < 16 → b ≡ 32 → ⊥
 unfolding nibble
 no-space b h e = let l : 16 < 16 = rw e at h in omega arith
 
@@ -51,7 +50,7 @@ module _ (p line : List ℕ) (i : ℕ) (h : i < length line) (s : getD line i 0 
   into : next (counted 0) (rest p) (leftAt line i) ≡ next (counted 0) (λ (w : List ℕ). rest p (getD line i 0 ∷ w)) (leftAt line (i + 1))
   into = letter (counted 0) (rest p) line i h s
 
-  pub odd : length line ≤ i + 1 → next (counted 0) (rest p) (leftAt line i) ≡ got (counted 0) lost
+  odd : length line ≤ i + 1 → next (counted 0) (rest p) (leftAt line i) ≡ got (counted 0) lost
   unfolding hexes before givenBy
   odd l = into ∙ short (counted 0) (λ (w : List ℕ). rest p (getD line i 0 ∷ w)) line (i + 1) refl l
 
@@ -78,7 +77,7 @@ module _ (p line : List ℕ) (i : ℕ) (h : i < length line) (s : getD line i 0 
       rw (lt-ltb (nibble (getD line i 0)) 16 a, lt-ltb (nibble (getD line (i + 1) 0)) 16 b)
       (ap givenBy (before-before p (byte (getD line i 0) (getD line (i + 1) 0) ∷ []) (hexes w)))
 
-  pub pair : nibble (getD line i 0) < 16 → i + 1 < length line → nibble (getD line (i + 1) 0) < 16
+  pair : nibble (getD line i 0) < 16 → i + 1 < length line → nibble (getD line (i + 1) 0) < 16
       → next (counted 0) (rest p) (leftAt line i)
       ≡ next (counted 0) (rest (p ++ (byte (getD line i 0) (getD line (i + 1) 0) ∷ []))) (leftAt line (i + 1 + 1))
   pair a m b =
@@ -87,16 +86,44 @@ module _ (p line : List ℕ) (i : ℕ) (h : i < length line) (s : getD line i 0 
       alike (counted 0) (λ (w : List ℕ). rest p (getD line i 0 ∷ getD line (i + 1) 0 ∷ w))
       (rest (p ++ (byte (getD line i 0) (getD line (i + 1) 0) ∷ []))) (both a b) (leftAt line (i + 1 + 1))
 
--- Two letters are hex digits, or one of them is none.
-module _ (line : List ℕ) (i x y : ℕ) (h : i < length line) (s : getD line i 0 ≡ 32 → ⊥) (m : i + 1 < length line) (a : x ≡ nibble (getD line i 0))
-    (b : y ≡ nibble (getD line (i + 1) 0)) where
-  unpaired-by : (p : List ℕ) → (ltb 15 x ≡ true) ⊎ (ltb 15 y ≡ true) → Dec (x ≤ 15) → next (counted 0) (rest p) (leftAt line i) ≡ got (counted 0) lost
-  unpaired-by p t (no n) = let l : 15 < x = lt-of-not-le n in high p line i h s (omega (arith, a, l))
-  unpaired-by p (inl t) (yes l) = high p line i h s (omega (arith, a, ltb-true 15 x t))
-  unpaired-by p (inr t) (yes l) = low p line i h s (omega (arith, a, l)) m (omega (arith, b, ltb-true 15 y t))
+  unpaired-by : twoDigits line i ≡ false → Dec (length line ≤ i + 1) → Dec (nibble (getD line i 0) ≤ 15) → Dec (nibble (getD line (i + 1) 0) ≤ 15)
+      → next (counted 0) (rest p) (leftAt line i) ≡ got (counted 0) lost
+  unfolding twoDigits
+  unpaired-by t (yes l) a b = odd l
+  unpaired-by t (no n) (no a) b = let l : 15 < nibble (getD line i 0) = lt-of-not-le a in high (omega (arith, l))
+  unpaired-by t (no n) (yes a) (no b) =
+      let l : 15 < nibble (getD line (i + 1) 0) = lt-of-not-le b in
+      low (omega (arith, a)) (lt-of-not-le n) (omega (arith, l))
+  unpaired-by t (no n) (yes a) (yes b) =
+      absurd
+      (subst T
+      (rw (lt-leb (length line) (i + 1) (lt-of-not-le n), lt-ltb (nibble (getD line i 0)) 16 (omega (arith, a)), lt-ltb (nibble (getD line (i + 1) 0)) 16 (omega (arith, b))) at t)
+      tt)
 
-  pub unpaired : (p : List ℕ) → (ltb 15 x || ltb 15 y) ≡ true → next (counted 0) (rest p) (leftAt line i) ≡ got (counted 0) lost
-  unpaired p t = unpaired-by p (either (ltb 15 x) (ltb 15 y) t) (decLe x 15)
+stopped-by : (p line : List ℕ) (i : ℕ) → twoDigits line i ≡ false → (length line < i) ⊎ ((i < length line) × (getD line i 0 ≡ 32 → ⊥))
+    → next (counted 0) (rest p) (leftAt line i) ≡ got (counted 0) lost
+stopped-by p line i t (inl l) = nothing (counted 0) (rest p) line i l
+stopped-by p line i t (inr o) =
+    unpaired-by p line i (o .0) (o .1) t (decLe (length line) (i + 1)) (decLe (nibble (getD line i 0)) 15)
+    (decLe (nibble (getD line (i + 1) 0)) 15)
+
+-- Where no pair stands and no word ends, there is no hex.
+pub hex-stopped : (p line : List ℕ) (i : ℕ) → twoDigits line i ≡ false → wordEnds line i ≡ false
+    → next (counted 0) (rest p) (leftAt line i) ≡ got (counted 0) lost
+hex-stopped p line i t e = stopped-by p line i t (no-end line i e)
+
+two-by : (line : List ℕ) (i : ℕ) → Dec (length line ≤ i + 1) → twoDigits line i ≡ true
+    → (i + 1 < length line) × (nibble (getD line i 0) < 16) × (nibble (getD line (i + 1) 0) < 16)
+unfolding twoDigits
+two-by line i (yes l) t = absurd (subst T (sym (rw (le-leb (length line) (i + 1) l) at t)) tt)
+two-by line i (no n) t =
+    let l : i + 1 < length line = lt-of-not-le n in
+    let o = each (ltb (nibble (getD line i 0)) 16) (ltb (nibble (getD line (i + 1) 0)) 16) (rw (lt-leb (length line) (i + 1) l) at t) in
+    (l, ltb-true (nibble (getD line i 0)) 16 (o .0), ltb-true (nibble (getD line (i + 1) 0)) 16 (o .1))
+
+pub two-digits : (line : List ℕ) (i : ℕ) → twoDigits line i ≡ true
+    → (i + 1 < length line) × (nibble (getD line i 0) < 16) × (nibble (getD line (i + 1) 0) < 16)
+two-digits line i t = two-by line i (decLe (length line) (i + 1)) t
 
 -- An x, and then hex.
 pub marked : (line : List ℕ) (i : ℕ) → i < length line → getD line i 0 ≡ 120
@@ -183,12 +210,11 @@ onward line at n i e h s a m b =
     ap (λ (p : List ℕ). next (counted 0) (rest p) (leftAt line (i + 1 + 1))) (sym (pairs-more line at n i e)) ∙
     ap (λ (k : ℕ). next (counted 0) (rest (pairs line at (n + 1))) (leftAt line k)) j
 
-pub paired : (line : List ℕ) (at n i x y : ℕ) → i ≡ at + 2 * n → i < length line → (getD line i 0 ≡ 32 → ⊥) → i + 1 < length line
-    → x ≡ nibble (getD line i 0) → y ≡ nibble (getD line (i + 1) 0) → (ltb 15 x || ltb 15 y) ≡ false
+pub paired : (line : List ℕ) (at n i : ℕ) → i ≡ at + 2 * n → twoDigits line i ≡ true
     → next (counted 0) (rest (pairs line at n)) (leftAt line i) ≡ next (counted 0) (rest (pairs line at (n + 1))) (leftAt line (i + 2))
-paired line at n i x y e h s m a b t =
-    let o = neither (ltb 15 x) (ltb 15 y) t in
-    onward line at n i e h s (omega (arith, a, ltb-false 15 x (o .0))) m (omega (arith, b, ltb-false 15 y (o .1)))
+paired line at n i e t =
+    let o = two-digits line i t in
+    onward line at n i e (omega (arith, o .0)) (no-space (getD line i 0) (o .1)) (o .1) (o .0) (o .2)
 
 pub no-letter : (line : List ℕ) (i : ℕ) → length line ≤ i → next (counted 0) filled (leftAt line i) ≡ got (counted 0) lost
 unfolding filled

@@ -1,13 +1,14 @@
 -- Where the code is in a line or a buffer: what its indices stand for. No public contract speaks of these.
-use mathlib.Core.Bool.{cond}
+use mathlib.Core.Bool.{Bool, false, not, _&&_, cond}
 use mathlib.Core.List.{List, [], _∷_, _++_}
 use mathlib.Core.Path.{_≡_}
 use Prim.Native.Nat.{ℕ, zero, suc, _+_, _*_, _/_, _%_, _≤_}
-use lib.Dec.{eqb, leb}
+use lib.Dec.{eqb, leb, ltb}
 use lib.ListN.{length, getD, drop}
 use Rattle.cases.specs.Line.{Left, words, lost, wordsOf, Got, got}
 use Rattle.cases.specs.Row.{Args}
-use Rattle.cases.specs.Seed.{Sown, zeros, counted, given, byte}
+use Rattle.cases.specs.Number.{accepts}
+use Rattle.cases.specs.Seed.{Sown, zeros, counted, given, nibble, byte}
 use Rattle.cases.specs.Answer.{placed}
 use Rattle.cases.specs.declared.number.Number.{Number}
 use Rattle.cases.specs.declared.number.Name.{Name}
@@ -19,6 +20,22 @@ use Rattle.cases.specs.declared.seed.Seeded.{Seeded}
 -- What is left from an index on: one past the end no word is, and beyond that reading is lost.
 unfoldable pub leftAt : List ℕ → ℕ → Left
 leftAt line at = cond (leb at (length line)) (wordsOf (drop at line)) (cond (eqb at (length line + 1)) (words []) lost)
+
+-- Whether a word ends at an index; whether one letter more of a name stands there, or one digit more of a number; and
+-- whether two hex digits do.
+unfoldable pub wordEnds : List ℕ → ℕ → Bool
+wordEnds line i = cond (leb (length line) i) (eqb i (length line)) (eqb (getD line i 0) 32)
+
+unfoldable pub oneLetter : List ℕ → ℕ → ℕ → Bool
+oneLetter line i v =
+    cond (leb (length line) i) false ((not (eqb (getD line i 0) 32) && not (eqb (getD line i 0) 0)) && leb v 281474976710655)
+
+unfoldable pub oneDigit : List ℕ → ℕ → ℕ → ℕ → Bool
+oneDigit line i most v = cond (leb (length line) i) false (accepts most v (getD line i 0))
+
+unfoldable pub twoDigits : List ℕ → ℕ → Bool
+twoDigits line i =
+    cond (leb (length line) (i + 1)) false (ltb (nibble (getD line i 0)) 16 && ltb (nibble (getD line (i + 1) 0)) 16)
 
 -- What the code has read of a line.
 abbrev pub read : List ℕ → Number → Got ℕ

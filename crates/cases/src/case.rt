@@ -1,10 +1,11 @@
 // A line as a case.
 ghost use mathlib.Core.Path.{_≡_};
-ghost use Prim.Native.Nat.{_≤_, _<_, _^_};
-ghost use mathlib.Core.List.{_++_};
-ghost use lib.ListN.{length, drop};
+ghost use Prim.Native.Nat.{ℕ, _≤_, _<_, _+_, _^_};
+ghost use mathlib.Core.Bool.{cond};
+ghost use mathlib.Core.List.{List, _++_};
+ghost use lib.ListN.{length, drop, getD};
 ghost use Rattle.cases.specs.Place.{sown, readArgs, Within, Fills};
-ghost use Rattle.cases.specs.Case.{exactly, fitting, capped, laid, lentAt, caseOf};
+ghost use Rattle.cases.specs.Case.{exactly, fitting, capped, noCase, laid, lentAt, caseOf};
 ghost use Rattle.cases.specs.Seed.{firstBytes};
 ghost use Rattle.cases.specs.Case.{lent as lentTo};
 use crate::number::read_name;
@@ -48,17 +49,21 @@ fn held(format: u32, width: u32, height: u32, room: usize) -> usize
     area * n
 }
 
-// How many bytes the seed gives, if the room holds them; else one more than the room.
-fn lent(line: &[u8], format: u32, width: u32, height: u32, seed: Seed, room: usize) -> usize
-    requires { ⌜ Within (now line) seed ⌝ }
+// How many bytes the seed gives a canvas whose format, width and height begin at the word i, if the room holds them; else
+// one more than the room.
+fn lent(n: [u32; 16], i: usize, seed: Seed, room: usize) -> usize
+    requires { ⌜ i < 14 ⌝ }
     requires { ⌜ room < 2 ^ 63 ⌝ }
-    ensures { λ r. ⌜ fitting room r ≡ capped room (lentTo format width height (sown (now (line .entry)) seed)) ⌝ }
+    ensures { λ r. ⌜ ((line : List ℕ) → fitting room r ≡ capped room (lentTo (getD n i 0) (getD n (i + 1) 0) (getD n (i + 2) 0) (sown line seed))) ⌝ }
     ensures { λ r. ⌜ Fills seed r ⌝ }
 {
+    let format = n[i];
+    let width = n[i + 1];
+    let height = n[i + 2];
     match seed {
         Seed::Zeros => held(format, width, height, room),
         Seed::Number(_) => held(format, width, height, room),
-        Seed::Bytes(_, n) => n,
+        Seed::Bytes(_, k) => k,
     }
 }
 
@@ -72,19 +77,27 @@ fn lay(line: &[u8], seed: Seed, n: usize, bytes: &mut [u8])
     sow(line, seed, &mut bytes[..n])
 }
 
-// Lays the first bytes out, where there is room for both.
-fn lay_both(line: &[u8], name: u64, h: Args, c: Args, bytes: &mut [u8], image: &mut [u8]) -> Case
+// Lays the first bytes out, where the line is not bad and there is room for both.
+fn lay_both(
+    line: &[u8],
+    name: u64,
+    bad: bool,
+    h: Args,
+    c: Args,
+    bytes: &mut [u8],
+    image: &mut [u8],
+) -> Case
     requires { ⌜ Within (now line) (h .seed) ⌝ }
     requires { ⌜ Within (now line) (c .seed) ⌝ }
-    ensures { λ r. ⌜ (r, now (bytes .exit), now (image .exit)) ≡ laid name (readArgs (now (line .entry)) h .value) (readArgs (now (line .entry)) c .value) (lentAt (length (now (bytes .entry))) 0 (readArgs (now (line .entry)) h .value)) (lentAt (length (now (image .entry))) 4 (readArgs (now (line .entry)) c .value)) (now (bytes .entry)) (now (image .entry)) ⌝ }
+    ensures { λ r. ⌜ (r, now (bytes .exit), now (image .exit)) ≡ cond bad (noCase, now (bytes .entry), now (image .entry)) (laid name (readArgs (now (line .entry)) h .value) (readArgs (now (line .entry)) c .value) (lentAt (length (now (bytes .entry))) 0 (readArgs (now (line .entry)) h .value)) (lentAt (length (now (image .entry))) 4 (readArgs (now (line .entry)) c .value)) (now (bytes .entry)) (now (image .entry))) ⌝ }
 {
     let head = h.numbers;
     let seed = h.seed;
-    let n = lent(line, head[0], head[1], head[2], seed, bytes.len());
+    let n = lent(head, 0, seed, bytes.len());
     let args = c.numbers;
     let beside = c.seed;
-    let m = lent(line, args[4], args[5], args[6], beside, image.len());
-    if (bytes.len() < n) | (image.len() < m) {
+    let m = lent(args, 4, beside, image.len());
+    if bad | (bytes.len() < n) | (image.len() < m) {
         return BAD;
     }
     lay(line, seed, n, bytes);
@@ -107,8 +120,6 @@ pub fn read(line: &[u8], bytes: &mut [u8], image: &mut [u8]) -> Case
     let name = read_name(line, h.next);
     let k = kinds(name.letters);
     let c = read_args(line, name.next, k);
-    if (k == 0) | (c.next != line.len() + 1) {
-        return BAD;
-    }
-    lay_both(line, name.letters, h, c, bytes, image)
+    let bad = (k == 0) | (c.next != line.len() + 1);
+    lay_both(line, name.letters, bad, h, c, bytes, image)
 }

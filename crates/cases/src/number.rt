@@ -2,11 +2,8 @@
 // is left, and beyond that reading is lost.
 ghost use mathlib.Core.Path.{_≡_};
 ghost use Prim.Native.Nat.{_≤_, _<_};
-ghost use lib.ListN.{length};
-ghost use Rattle.cases.specs.Line.{next};
-ghost use Rattle.cases.specs.Place.{leftAt, read, readName};
+ghost use Rattle.cases.specs.Place.{leftAt, wordEnds, oneLetter, oneDigit, read, readName};
 ghost use Rattle.cases.specs.Number.{numberOf, numeric, nameOf};
-ghost use Rattle.cases.specs.Number.{digits as digitsOf};
 
 pub(crate) struct Number {
     pub value: u32,
@@ -26,58 +23,50 @@ pub(crate) fn wide(b: u8) -> u64
     b as u64
 }
 
+// Whether a word ends at a place.
+pub(crate) fn ends(line: &[u8], i: usize) -> bool
+    ensures { λ r. ⌜ r ≡ wordEnds (now (line .entry)) i ⌝ }
+{
+    if line.len() <= i {
+        return i == line.len();
+    }
+    line[i] == 32
+}
+
+// Whether one digit more stands at a place, with which the value is at most so much.
+fn digit(line: &[u8], i: usize, most: u64, value: u64) -> bool
+    requires { ⌜ (value ≤ most) × (most < 4294967296) ⌝ }
+    ensures { λ r. ⌜ r ≡ oneDigit (now (line .entry)) i most value ⌝ }
+{
+    if line.len() <= i {
+        return false;
+    }
+    // The byte less 48, around 256: more than 9 for whatever is no digit.
+    let d = (wide(line[i]) + 208) % 256;
+    (d <= 9) & (value * 10 + d <= most)
+}
+
 // The number at a place, if it is at most so much.
 pub(crate) fn read_number(line: &[u8], at: usize, most: u32) -> Number
     ensures { λ r. ⌜ read (now (line .entry)) r ≡ numberOf most (leftAt (now (line .entry)) at) ⌝ }
     ensures { λ r. ⌜ r .value ≤ most ⌝ }
 {
-    if line.len() <= at {
-        return Number {
-            value: 0,
-            next: line.len() + 2,
-        };
-    }
-    if line[at] == 32 {
-        return Number {
-            value: 0,
-            next: line.len() + 2,
-        };
-    }
-    digits(line, at, most)
-}
-
-// The digits from a place up to the word's end.
-fn digits(line: &[u8], at: usize, most: u32) -> Number
-    requires { ⌜ at ≤ length (now line) ⌝ }
-    ensures { λ r. ⌜ read (now (line .entry)) r ≡ next 0 (digitsOf most 0) (leftAt (now (line .entry)) at) ⌝ }
-    ensures { λ r. ⌜ r .value ≤ most ⌝ }
-{
     let limit = most as u64;
     let mut value: u64 = 0;
     let mut i = at;
-    while i < line.len() {
-        let b = wide(line[i]);
-        if b == 32 {
-            return Number {
-                value: value as u32,
-                next: i + 1,
-            };
-        }
-        // b - 48 around 256: more than 9 for whatever is no digit.
-        let d = (b + 208) % 256;
-        let v = value * 10 + d;
-        if (9 < d) | (limit < v) {
-            return Number {
-                value: 0,
-                next: line.len() + 2,
-            };
-        }
-        value = v;
+    while digit(line, i, limit, value) {
+        value = value * 10 + (wide(line[i]) - 48);
         i += 1;
     }
+    if (i != at) & ends(line, i) {
+        return Number {
+            value: value as u32,
+            next: i + 1,
+        };
+    }
     Number {
-        value: value as u32,
-        next: i + 1,
+        value: 0,
+        next: line.len() + 2,
     }
 }
 
@@ -115,35 +104,35 @@ pub(crate) fn read_kind(line: &[u8], at: usize, kind: u64) -> Number
     }
 }
 
+// Whether one letter more stands at a place, behind these.
+fn letter(line: &[u8], i: usize, letters: u64) -> bool
+    ensures { λ r. ⌜ r ≡ oneLetter (now (line .entry)) i letters ⌝ }
+{
+    if line.len() <= i {
+        return false;
+    }
+    let b = line[i];
+    ((b != 32) & (b != 0)) & (letters <= 281474976710655)
+}
+
 // The name at a place: at most seven letters, none of them 0.
 pub(crate) fn read_name(line: &[u8], at: usize) -> Name
     ensures { λ r. ⌜ readName (now (line .entry)) r ≡ nameOf (leftAt (now (line .entry)) at) ⌝ }
 {
-    let lost = Name {
-        letters: 0,
-        next: line.len() + 2,
-    };
-    if line.len() < at {
-        return lost;
-    }
     let mut letters: u64 = 0;
     let mut i = at;
-    while i < line.len() {
-        let b = wide(line[i]);
-        if b == 32 {
-            return Name {
-                letters,
-                next: i + 1,
-            };
-        }
-        if (b == 0) | (281474976710655 < letters) {
-            return lost;
-        }
-        letters = letters * 256 + b;
+    while letter(line, i, letters) {
+        letters = letters * 256 + wide(line[i]);
         i += 1;
     }
+    if ends(line, i) {
+        return Name {
+            letters,
+            next: i + 1,
+        };
+    }
     Name {
-        letters,
-        next: i + 1,
+        letters: 0,
+        next: line.len() + 2,
     }
 }

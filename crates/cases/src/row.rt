@@ -112,10 +112,7 @@ pub(crate) fn read_args(line: &[u8], at: usize, kinds: u64) -> Args
     };
     let mut rest = kinds;
     let mut i = 0;
-    while i < 16 {
-        if rest == 0 {
-            return a;
-        }
+    while (i < 16) & (rest != 0) {
         a = take(line, i, rest / 1152921504606846976, a);
         rest = rest % 1152921504606846976 * 16;
         i += 1;

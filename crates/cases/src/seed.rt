@@ -3,9 +3,10 @@ ghost use mathlib.Core.Path.{_≡_};
 ghost use Prim.Native.Nat.{_≤_, _<_, _+_, _*_};
 ghost use lib.ListN.{length};
 ghost use Rattle.cases.specs.Line.{next};
-ghost use Rattle.cases.specs.Place.{leftAt, readSeed, Within, Fills, sown, pairs};
+ghost use Rattle.cases.specs.Place.{leftAt, readSeed, Within, Fills, sown, twoDigits, pairs};
 ghost use Rattle.cases.specs.Seed.{seedOf, counted, givenHex, fileOf, firstBytes, turns};
 ghost use Rattle.cases.specs.Seed.{nibble as nibbleOf};
+use crate::number::ends;
 use crate::number::read_name;
 use crate::number::read_number;
 
@@ -76,6 +77,17 @@ pub(crate) fn read_file(line: &[u8], at: usize) -> Seeded
     read_hex(line, at)
 }
 
+// Whether two hex digits stand at a place.
+fn pair(line: &[u8], i: usize) -> bool
+    requires { ⌜ i ≤ length (now line) ⌝ }
+    ensures { λ r. ⌜ r ≡ twoDigits (now (line .entry)) i ⌝ }
+{
+    if line.len() <= i + 1 {
+        return false;
+    }
+    (nibble(line[i]) < 16) & (nibble(line[i + 1]) < 16)
+}
+
 // The pairs of hex digits from a place up to the word's end.
 fn read_hex(line: &[u8], at: usize) -> Seeded
     requires { ⌜ at ≤ length (now line) ⌝ }
@@ -84,31 +96,19 @@ fn read_hex(line: &[u8], at: usize) -> Seeded
 {
     let mut i = at;
     let mut n = 0;
-    while i < line.len() {
-        if line[i] == 32 {
-            return Seeded {
-                seed: Seed::Bytes(at, n),
-                next: i + 1,
-            };
-        }
-        if line.len() <= i + 1 {
-            return Seeded {
-                seed: Seed::Number(0),
-                next: line.len() + 2,
-            };
-        }
-        if (15 < nibble(line[i])) | (15 < nibble(line[i + 1])) {
-            return Seeded {
-                seed: Seed::Number(0),
-                next: line.len() + 2,
-            };
-        }
+    while pair(line, i) {
         i += 2;
         n += 1;
     }
+    if ends(line, i) {
+        return Seeded {
+            seed: Seed::Bytes(at, n),
+            next: i + 1,
+        };
+    }
     Seeded {
-        seed: Seed::Bytes(at, n),
-        next: i + 1,
+        seed: Seed::Number(0),
+        next: line.len() + 2,
     }
 }
 

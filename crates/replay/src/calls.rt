@@ -1,6 +1,6 @@
-// The calls of cases: each is made on its canvas with the numbers of its line. An op is added as a function that makes
-// its call from the row's words, and as an arm of `call`.
-ghost use Prim.Native.Nat.{_≤_, _<_, _+_};
+// The calls of cases: each is made on its canvas with the numbers of its line. An op is added as an arm of `call`, which
+// makes its call from the row's words, and of `clip_at`.
+ghost use Prim.Native.Nat.{_≤_};
 ghost use mathlib.Core.Path.{_≡_};
 ghost use lib.ListN.{length};
 use crate::least;
@@ -11,6 +11,7 @@ use cases::ARC;
 use cases::Answer;
 use cases::COPY;
 use cases::Case;
+use cases::DRAW;
 use cases::FILL;
 use cases::FRRECT;
 use cases::Found;
@@ -35,30 +36,24 @@ fn signed(n: u32) -> i32 {
     (0 - m as i64) as i32
 }
 
-// The word i of a row.
-fn word(n: [u32; 16], i: usize) -> u32
-    requires { ⌜ i < 16 ⌝ }
-{
-    n[i]
+// The word i of a row, counted around 16.
+fn word(n: [u32; 16], i: usize) -> u32 {
+    n[i % 16]
 }
 
 // The word i as an i32.
-fn int(n: [u32; 16], i: usize) -> i32
-    requires { ⌜ i < 16 ⌝ }
-{
+fn int(n: [u32; 16], i: usize) -> i32 {
     signed(word(n, i))
 }
 
 // The low byte of the word i.
-fn low(n: [u32; 16], i: usize) -> u8
-    requires { ⌜ i < 16 ⌝ }
-{
+fn low(n: [u32; 16], i: usize) -> u8 {
     (word(n, i) % 256) as u8
 }
 
 // COL, which begins at the word i.
 fn color(n: [u32; 16], i: usize) -> Color
-    requires { ⌜ i + 4 ≤ 16 ⌝ }
+    requires { ⌜ i ≤ 12 ⌝ }
 {
     Color {
         a: low(n, i),
@@ -70,7 +65,7 @@ fn color(n: [u32; 16], i: usize) -> Color
 
 // CLIP, which begins at the word i.
 fn clip(n: [u32; 16], i: usize) -> Clip
-    requires { ⌜ i + 4 ≤ 16 ⌝ }
+    requires { ⌜ i ≤ 12 ⌝ }
 {
     Clip {
         x: int(n, i),
@@ -82,7 +77,7 @@ fn clip(n: [u32; 16], i: usize) -> Clip
 
 // A canvas, whose format, width and height begin at the word i.
 fn sized(n: [u32; 16], i: usize, xor: bool) -> Canvas
-    requires { ⌜ i + 3 ≤ 16 ⌝ }
+    requires { ⌜ i ≤ 12 ⌝ }
 {
     Canvas {
         format: word(n, i),
@@ -92,115 +87,85 @@ fn sized(n: [u32; 16], i: usize, xor: bool) -> Canvas
     }
 }
 
-fn put(v: Canvas, n: [u32; 16], bytes: &mut [u8]) -> Drawn {
-    let x = int(n, 0);
-    let y = int(n, 1);
-    canvas::put_pixel(v, bytes, x, y, color(n, 2), clip(n, 6))
+// The word at which CLIP begins; COL, where an op has it, ends there.
+fn clip_at(name: u64) -> usize
+    ensures { λ r. ⌜ (4 ≤ r) × (r ≤ 12) ⌝ }
+{
+    match name {
+        INVERT => 4,
+        PUT | COPY => 6,
+        LINE | RECT | FILL => 8,
+        _ => 10,
+    }
 }
 
-fn line(v: Canvas, n: [u32; 16], bytes: &mut [u8]) -> Drawn {
-    let x = int(n, 0);
-    let y = int(n, 1);
-    let x2 = int(n, 2);
-    let y2 = int(n, 3);
-    canvas::draw_line(v, bytes, x, y, x2, y2, color(n, 4), clip(n, 8))
+// What ops begin with: a place, two sides, or the bits of a second place, and two numbers more.
+struct First {
+    x: i32,
+    y: i32,
+    w: u32,
+    h: u32,
+    s: u32,
+    t: u32,
 }
 
-fn rect(v: Canvas, n: [u32; 16], bytes: &mut [u8]) -> Drawn {
-    let x = int(n, 0);
-    let y = int(n, 1);
-    let w = word(n, 2);
-    let h = word(n, 3);
-    canvas::draw_rect(v, bytes, x, y, w, h, color(n, 4), clip(n, 8))
+fn begin(n: [u32; 16]) -> First {
+    First {
+        x: int(n, 0),
+        y: int(n, 1),
+        w: word(n, 2),
+        h: word(n, 3),
+        s: word(n, 4),
+        t: word(n, 5),
+    }
 }
 
-fn fill(v: Canvas, n: [u32; 16], bytes: &mut [u8]) -> Drawn {
-    let x = int(n, 0);
-    let y = int(n, 1);
-    let w = word(n, 2);
-    let h = word(n, 3);
-    canvas::fill_rect(v, bytes, x, y, w, h, color(n, 4), clip(n, 8))
+// What answers a bad line.
+const BAD: Answer = Answer {
+    name: 0,
+    status: 0,
+    found: Found::Nothing,
+    hash: 0,
+};
+
+// What answers a drawing call.
+fn counted(name: u64, d: Drawn, hash: u64) -> Answer {
+    Answer {
+        name,
+        status: d.status(),
+        found: Found::Count(d.count()),
+        hash,
+    }
 }
 
-fn arc(v: Canvas, n: [u32; 16], bytes: &mut [u8]) -> Drawn {
-    let x = int(n, 0);
-    let y = int(n, 1);
-    let w = word(n, 2);
-    let h = word(n, 3);
-    let start = int(n, 4);
-    let arc = int(n, 5);
-    canvas::draw_arc(v, bytes, x, y, w, h, start, arc, color(n, 6), clip(n, 10))
-}
-
-fn pie(v: Canvas, n: [u32; 16], bytes: &mut [u8]) -> Drawn {
-    let x = int(n, 0);
-    let y = int(n, 1);
-    let w = word(n, 2);
-    let h = word(n, 3);
-    let start = int(n, 4);
-    let arc = int(n, 5);
-    canvas::fill_arc(v, bytes, x, y, w, h, start, arc, color(n, 6), clip(n, 10))
-}
-
-fn round(v: Canvas, n: [u32; 16], bytes: &mut [u8]) -> Drawn {
-    let x = int(n, 0);
-    let y = int(n, 1);
-    let w = word(n, 2);
-    let h = word(n, 3);
-    let aw = word(n, 4);
-    let ah = word(n, 5);
-    canvas::draw_round_rect(v, bytes, x, y, w, h, aw, ah, color(n, 6), clip(n, 10))
-}
-
-fn fill_round(v: Canvas, n: [u32; 16], bytes: &mut [u8]) -> Drawn {
-    let x = int(n, 0);
-    let y = int(n, 1);
-    let w = word(n, 2);
-    let h = word(n, 3);
-    let aw = word(n, 4);
-    let ah = word(n, 5);
-    canvas::fill_round_rect(v, bytes, x, y, w, h, aw, ah, color(n, 6), clip(n, 10))
-}
-
-fn copy(v: Canvas, n: [u32; 16], bytes: &mut [u8]) -> Drawn {
-    let x = int(n, 0);
-    let y = int(n, 1);
-    let sx = int(n, 2);
-    let sy = int(n, 3);
-    canvas::copy_area(v, bytes, x, y, sx, sy, word(n, 4), word(n, 5), clip(n, 6))
-}
-
-fn invert(v: Canvas, n: [u32; 16], bytes: &mut [u8]) -> Drawn {
-    let x = int(n, 0);
-    let y = int(n, 1);
-    canvas::invert_rect(v, bytes, x, y, word(n, 2), word(n, 3), clip(n, 4))
-}
-
-fn picture(v: Canvas, n: [u32; 16], bytes: &mut [u8], image: &[u8]) -> Drawn {
-    let x = int(n, 0);
-    let y = int(n, 1);
-    let w = word(n, 2);
-    let h = word(n, 3);
+// Draws the image.
+fn picture(v: Canvas, n: [u32; 16], bytes: &mut [u8], image: &[u8]) -> Answer {
+    let r = begin(n);
     let source = sized(n, 4, false);
     let sx = int(n, 8);
     let sy = int(n, 9);
-    canvas::draw(v, bytes, x, y, w, h, source, image, sx, sy, clip(n, 10))
+    let k = clip(n, 10);
+    let d = canvas::draw(v, bytes, r.x, r.y, r.w, r.h, source, image, sx, sy, k);
+    counted(DRAW, d, cases::hash(bytes))
 }
 
-// Makes the drawing call of this name.
-fn call(name: u64, v: Canvas, n: [u32; 16], bytes: &mut [u8], image: &[u8]) -> Drawn {
+// Makes the drawing call of this name, which needs no image.
+fn call(name: u64, v: Canvas, n: [u32; 16], bytes: &mut [u8]) -> Drawn {
+    let r = begin(n);
+    let at = clip_at(name);
+    let c = color(n, at - 4);
+    let k = clip(n, at);
     match name {
-        PUT => put(v, n, bytes),
-        LINE => line(v, n, bytes),
-        RECT => rect(v, n, bytes),
-        FILL => fill(v, n, bytes),
-        ARC => arc(v, n, bytes),
-        PIE => pie(v, n, bytes),
-        RRECT => round(v, n, bytes),
-        FRRECT => fill_round(v, n, bytes),
-        COPY => copy(v, n, bytes),
-        INVERT => invert(v, n, bytes),
-        _ => picture(v, n, bytes, image),
+        PUT => canvas::put_pixel(v, bytes, r.x, r.y, c, k),
+        LINE => canvas::draw_line(v, bytes, r.x, r.y, signed(r.w), signed(r.h), c, k),
+        RECT => canvas::draw_rect(v, bytes, r.x, r.y, r.w, r.h, c, k),
+        FILL => canvas::fill_rect(v, bytes, r.x, r.y, r.w, r.h, c, k),
+        ARC => canvas::draw_arc(v, bytes, r.x, r.y, r.w, r.h, signed(r.s), signed(r.t), c, k),
+        PIE => canvas::fill_arc(v, bytes, r.x, r.y, r.w, r.h, signed(r.s), signed(r.t), c, k),
+        RRECT => canvas::draw_round_rect(v, bytes, r.x, r.y, r.w, r.h, r.s, r.t, c, k),
+        FRRECT => canvas::fill_round_rect(v, bytes, r.x, r.y, r.w, r.h, r.s, r.t, c, k),
+        COPY => canvas::copy_area(v, bytes, r.x, r.y, signed(r.w), signed(r.h), r.s, r.t, k),
+        _ => canvas::invert_rect(v, bytes, r.x, r.y, r.w, r.h, k),
     }
 }
 
@@ -227,45 +192,44 @@ fn seen(p: Pixel, hash: u64) -> Answer {
     }
 }
 
-// How many words a file's reading wrote, within what was lent.
-fn written(j: Judged, room: usize) -> usize
-    ensures { λ r. ⌜ r ≤ room ⌝ }
-{
+// What a file's reading gives: its status, the image's sides and how many pixels are clear.
+struct Sides {
+    status: u32,
+    w: u32,
+    h: u32,
+    clear: u64,
+}
+
+fn judged(j: Judged) -> Sides {
     match j {
-        Judged::Refused(_) => 0,
-        Judged::Sound(i) => {
-            let n = i.width as usize * i.height as usize;
-            least(n, room)
-        }
+        Judged::Refused(r) => Sides {
+            status: r.number(),
+            w: 0,
+            h: 0,
+            clear: 0,
+        },
+        Judged::Sound(i) => Sides {
+            status: 0,
+            w: i.width,
+            h: i.height,
+            clear: i.clear,
+        },
     }
 }
 
 // Reads a file into the words lent.
 fn decode(file: &[u8], words: &mut [u32]) -> Answer {
-    let j = lbmp::decode_lbmp(file, words);
-    let n = written(j, words.len());
-    let hash = cases::hash_words(&words[..n]);
-    match j {
-        Judged::Refused(r) => Answer {
-            name: LBMP,
-            status: r.number(),
-            found: Found::Image {
-                w: 0,
-                h: 0,
-                clear: 0,
-            },
-            hash,
+    let s = judged(lbmp::decode_lbmp(file, words));
+    let n = least(s.w as usize * s.h as usize, words.len());
+    Answer {
+        name: LBMP,
+        status: s.status,
+        found: Found::Image {
+            w: s.w,
+            h: s.h,
+            clear: s.clear,
         },
-        Judged::Sound(i) => Answer {
-            name: LBMP,
-            status: 0,
-            found: Found::Image {
-                w: i.width,
-                h: i.height,
-                clear: i.clear,
-            },
-            hash,
-        },
+        hash: cases::hash_words(&words[..n]),
     }
 }
 
@@ -289,17 +253,6 @@ fn get(v: Canvas, n: [u32; 16], bytes: &[u8]) -> Answer {
     seen(p, cases::hash(bytes))
 }
 
-// Draws as a case says, and counts.
-fn drawn(name: u64, v: Canvas, n: [u32; 16], bytes: &mut [u8], image: &[u8]) -> Answer {
-    let d = call(name, v, n, bytes, image);
-    Answer {
-        name,
-        status: d.status(),
-        found: Found::Count(d.count()),
-        hash: cases::hash(bytes),
-    }
-}
-
 // Makes the call of a case on its bytes and image.
 pub(crate) fn respond(c: Case, bytes: &mut [u8], image: &[u8]) -> Answer {
     let name = c.name;
@@ -307,8 +260,13 @@ pub(crate) fn respond(c: Case, bytes: &mut [u8], image: &[u8]) -> Answer {
     let h = c.head;
     let v = sized(h, 0, word(h, 3) == 1);
     match name {
+        0 => BAD,
         GET => get(v, n, bytes),
         LBMP => bitmap(image, word(n, 0)),
-        _ => drawn(name, v, n, bytes, image),
+        DRAW => picture(v, n, bytes, image),
+        _ => {
+            let d = call(name, v, n, bytes);
+            counted(name, d, cases::hash(bytes))
+        }
     }
 }

@@ -1,14 +1,12 @@
 // Reads cases from standard input, one a line, and writes a line for each to standard output.
-ghost use mathlib.Core.Bool.{true};
 ghost use mathlib.Core.Path.{_≡_};
-ghost use Prim.Native.Nat.{_≤_, _+_};
+ghost use Prim.Native.Nat.{_≤_};
 ghost use lib.ListN.{length};
 
 mod calls;
 
 use calls::respond;
 use cases::Answer;
-use cases::Found;
 use libc::STDIN_FILENO;
 use libc::STDOUT_FILENO;
 
@@ -38,40 +36,12 @@ fn least(a: usize, b: usize) -> usize
     b
 }
 
-// Whether a case of this name, on a line of this length, stands in what was read: its bytes and its image's are within
-// the room of each.
-fn sound(name: u64, line: usize, bytes: usize, room: usize, image: usize, beside: usize) -> bool
-    ensures { λ r. ⌜ (r ≡ true → (bytes ≤ room) × (image ≤ beside)) ⌝ }
-{
-    if name == 0 {
-        return false;
-    }
-    if LONGEST < line {
-        return false;
-    }
-    if room < bytes {
-        return false;
-    }
-    image <= beside
-}
-
-// What answers a bad line.
-const BAD: Answer = Answer {
-    name: 0,
-    status: 0,
-    found: Found::Nothing,
-    hash: 0,
-};
-
 // Answers a line.
 fn answer(line: &[u8], bytes: &mut [u8], image: &mut [u8]) -> Answer {
     let c = cases::read(line, bytes, image);
     let n = c.bytes;
     let m = c.image;
-    if sound(c.name, line.len(), n, bytes.len(), m, image.len()) {
-        return respond(c, &mut bytes[..n], &image[..m]);
-    }
-    BAD
+    respond(c, &mut bytes[..n], &image[..m])
 }
 
 // Writes an answer at the start of out.
@@ -96,24 +66,23 @@ fn place(out: &[u8], used: usize) -> usize
     0
 }
 
-// Answers a line behind what out holds.
-fn step(line: &[u8], bytes: &mut [u8], image: &mut [u8], out: &mut [u8], used: usize) -> usize
+// Puts an answer behind what out holds.
+fn emit(a: Answer, out: &mut [u8], used: usize) -> usize
     requires { ⌜ used ≤ length (now out) ⌝ }
     ensures { λ r. ⌜ r ≤ length (now (out .entry)) ⌝ }
 {
-    let a = answer(line, bytes, image);
     let at = place(out, used);
     let n = write(a, &mut out[at..]);
     at + n
 }
 
-// The index of the first line end at or after a place, or the text's length.
-fn line_end(text: &[u8], from: usize) -> usize
-    requires { ⌜ from ≤ length (now text) ⌝ }
-    ensures { λ r. ⌜ (from ≤ r) × (r ≤ length (now (text .entry))) ⌝ }
+// The index of the first line end from a place on, or the end.
+fn line_end(text: &[u8], from: usize, to: usize) -> usize
+    requires { ⌜ (from ≤ to) × (to ≤ length (now text)) ⌝ }
+    ensures { λ r. ⌜ (from ≤ r) × (r ≤ to) ⌝ }
 {
     let mut i = from;
-    while i < text.len() {
+    while i < to {
         if text[i] == 10 {
             return i;
         }
@@ -122,33 +91,11 @@ fn line_end(text: &[u8], from: usize) -> usize
     i
 }
 
-// How far a text was answered, and how much of out is used.
-struct Done {
-    at: usize,
-    used: usize,
-}
-
-// Answers each whole line of a text.
-fn lines(text: &[u8], bytes: &mut [u8], image: &mut [u8], out: &mut [u8], used: usize) -> Done
-    requires { ⌜ used ≤ length (now out) ⌝ }
-    ensures { λ r. ⌜ (r .at ≤ length (now (text .entry))) × (r .used ≤ length (now (out .entry))) ⌝ }
-{
-    let mut at = 0;
-    let mut u = used;
-    let mut end = line_end(text, at);
-    while end < text.len() {
-        u = step(&text[at..end], bytes, image, out, u);
-        at = end + 1;
-        end = line_end(text, at);
-    }
-    Done { at, used: u }
-}
-
 // Moves a part of the text to its start, and gives its length. Of a line that is too long only as much is kept as
 // tells that it is.
 fn shift(text: &mut [u8], from: usize, to: usize) -> usize
     requires { ⌜ (from ≤ to) × (to ≤ length (now text)) ⌝ }
-    ensures { λ r. ⌜ r ≤ 65537 ⌝ }
+    ensures { λ r. ⌜ r ≤ to ⌝ }
 {
     let n = least(to - from, LONGEST + 1);
     let mut i = 0;
@@ -159,78 +106,87 @@ fn shift(text: &mut [u8], from: usize, to: usize) -> usize
     n
 }
 
-// What is carried from one read to the next: how much text is held, and how much of out is used.
-struct State {
-    held: usize,
-    used: usize,
-}
-
-// Answers the whole lines of the text up to an end, and keeps what is behind them.
-fn keep(
-    text: &mut [u8],
-    bytes: &mut [u8],
-    image: &mut [u8],
-    out: &mut [u8],
+// Where a line stands in the text, and how much of the text is held.
+struct Line {
+    at: usize,
     end: usize,
-    used: usize,
-) -> State
-    requires { ⌜ end ≤ length (now text) ⌝ }
-    requires { ⌜ used ≤ length (now out) ⌝ }
-    ensures { λ r. ⌜ (r .held ≤ 65537) × (r .used ≤ length (now (out .entry))) ⌝ }
-{
-    let d = lines(&text[..end], bytes, image, out, used);
-    let held = shift(text, d.at, end);
-    State { held, used: d.used }
+    held: usize,
 }
 
-// Reads once, behind what is held: how many bytes came, or 0 where nothing more comes.
-fn fetch(text: &mut [u8], held: usize) -> usize
-    requires { ⌜ held ≤ length (now text) ⌝ }
-    ensures { λ r. ⌜ held + r ≤ length (now (text .entry)) ⌝ }
+// Keeps a part of the text, at its start, and reads behind it: the line is what was kept.
+fn refill(text: &mut [u8], from: usize, to: usize) -> Line
+    requires { ⌜ (from ≤ to) × (to ≤ length (now text)) ⌝ }
+    ensures { λ r. ⌜ (r .at ≤ r .end) × (r .end ≤ r .held) × (r .held ≤ length (now (text .entry))) ⌝ }
 {
-    let got = libc::read(STDIN_FILENO, &mut text[held..]);
-    io::count(got, &text[held..])
+    let end = shift(text, from, to);
+    let n = io::read_full(STDIN_FILENO, &mut text[end..]);
+    Line {
+        at: 0,
+        end,
+        held: end + n,
+    }
 }
 
-// Reads and answers until nothing more comes. A proved loop has to end, so it counts its turns down from a number
-// that no run uses up.
-fn turns(text: &mut [u8], bytes: &mut [u8], image: &mut [u8], out: &mut [u8]) -> State
-    requires { ⌜ 131072 ≤ length (now text) ⌝ }
-    ensures { λ r. ⌜ (r .held ≤ 65537) × (r .used ≤ length (now (out .entry))) ⌝ }
+// The line behind the last one: where none is whole, more is read. A last line without a line end counts too; where
+// nothing is left, nothing is held.
+fn next(text: &mut [u8], last: Line) -> Line
+    requires { ⌜ (last .at ≤ last .end) × (last .end ≤ last .held) × (last .held ≤ length (now text)) ⌝ }
+    ensures { λ r. ⌜ (r .at ≤ r .end) × (r .end ≤ r .held) × (r .held ≤ length (now (text .entry))) ⌝ }
 {
-    let mut s = State { held: 0, used: 0 };
+    let mut held = last.held;
+    let mut at = least(last.end + 1, held);
     let mut left = u64::MAX;
     while 0 < left {
-        let n = fetch(text, s.held);
-        if n == 0 {
-            return s;
+        let end = line_end(text, at, held);
+        if end < held {
+            return Line { at, end, held };
         }
-        s = keep(text, bytes, image, out, s.held + n, s.used);
+        let f = refill(text, at, held);
+        if f.end == f.held {
+            return f;
+        }
+        at = 0;
+        held = f.held;
         left -= 1;
     }
-    s
+    Line { at, end: at, held }
 }
 
-// A last line without a line end counts too.
-fn last(s: State, text: &[u8], bytes: &mut [u8], image: &mut [u8], out: &mut [u8]) -> usize
-    requires { ⌜ s .held ≤ length (now text) ⌝ }
-    requires { ⌜ s .used ≤ length (now out) ⌝ }
+// Where the line ends that is answered: one that is too long is answered as the empty one, which is bad.
+fn shown(s: Line) -> usize
+    requires { ⌜ s .at ≤ s .end ⌝ }
+    ensures { λ r. ⌜ (s .at ≤ r) × (r ≤ s .end) ⌝ }
+{
+    if LONGEST < s.end - s.at {
+        return s.at;
+    }
+    s.end
+}
+
+// Answers all of standard input, but for what is used of out at the end. A proved loop has to end, so it counts its
+// turns down from a number that no run uses up.
+fn serve(text: &mut [u8], bytes: &mut [u8], image: &mut [u8], out: &mut [u8]) -> usize
     ensures { λ r. ⌜ r ≤ length (now (out .entry)) ⌝ }
 {
-    let held = s.held;
-    if held == 0 {
-        return s.used;
+    let mut s = Line {
+        at: 0,
+        end: 0,
+        held: 0,
+    };
+    let mut used = 0;
+    let mut left = u64::MAX;
+    while 0 < left {
+        s = next(text, s);
+        if s.held == 0 {
+            return used;
+        }
+        let at = s.at;
+        let end = shown(s);
+        let a = answer(&text[at..end], bytes, image);
+        used = emit(a, out, used);
+        left -= 1;
     }
-    step(&text[..held], bytes, image, out, s.used)
-}
-
-// Answers all of standard input.
-fn serve(text: &mut [u8], bytes: &mut [u8], image: &mut [u8], out: &mut [u8])
-    requires { ⌜ 131072 ≤ length (now text) ⌝ }
-{
-    let s = turns(text, bytes, image, out);
-    let used = last(s, text, bytes, image, out);
-    io::write_all(STDOUT_FILENO, &out[..used]);
+    used
 }
 
 // Room for the largest canvas or image that is tried, and for more than two lines of the greatest length.
@@ -245,5 +201,6 @@ fn main() {
     let mut bytes = buffer();
     let mut image = buffer();
     let mut out = io::large_buffer();
-    serve(&mut text, &mut bytes, &mut image, &mut out);
+    let used = serve(&mut text, &mut bytes, &mut image, &mut out);
+    io::write_all(STDOUT_FILENO, &out[..used]);
 }

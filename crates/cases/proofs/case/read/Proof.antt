@@ -1,5 +1,6 @@
 -- `read` reads the head, the name and the row, and lays the first bytes out where the line is one.
-use Rattle.cases.proofs.Cases.{bad-line, good-line}
+use mathlib.Core.Path.{refl}
+use Rattle.cases.proofs.Cases.{any-line}
 use borrow.Author.Needs.{needs}
 use Rattle.cases.proofs.case.read.Statement.{statement}
 use Rattle.cases.proofs.case.read.Tie as tie
@@ -16,13 +17,8 @@ kinds-requires c κs = search needs
 read-args-requires-2 : tie.Need-read-args-requires-2
 read-args-requires-2 c κs = search needs
 
-add-if1 : tie.Need-add-if1
-add-if1 c = search needs
-
-returns : tie.Need-returns
-returns c =
-    let a = c .before .before .before .before .before .before .before .before .before .args in
-    bad-line (a .line .now) (a .bytes .now) (a .image .now) (c .before .before .before .before .before .read-args .result) (c .before .before .before .before .read-name .result) (c .before .before .before .kinds .result) (c .before .before .before .before .before .read-args .ensures .0) (c .before .before .before .before .read-name .ensures) (c .before .before .before .kinds .ensures) (c .before .before .read-args2 .result) (c .before .before .read-args2 .ensures .0) (c .if1 .taken)
+add-bad : tie.Need-add-bad
+add-bad c = search needs
 
 lay-both-requires : tie.Need-lay-both-requires
 lay-both-requires c κs = search needs
@@ -33,10 +29,10 @@ same-length c = search needs
 same-length-2 : tie.Need-same-length-2
 same-length-2 c = search needs
 
-returns-2 : tie.Need-returns-2
-returns-2 c =
-    let a = c .before .before .before .before .before .before .before .before .before .before .before .before .before .before .before .before .args in
-    good-line (a .line .now) (a .bytes .now) (a .image .now) (c .before .before .before .before .before .before .before .before .before .before .before .before .read-args .result) (c .before .before .before .before .before .before .before .before .before .before .before .read-name .result) (c .before .before .before .before .before .before .before .before .before .before .kinds .result) (c .before .before .before .before .before .before .before .before .before .before .before .before .read-args .ensures .0) (c .before .before .before .before .before .before .before .before .before .before .before .read-name .ensures) (c .before .before .before .before .before .before .before .before .before .before .kinds .ensures) (c .before .before .before .before .before .before .before .before .before .read-args2 .result) (c .before .before .before .before .before .before .before .before .before .read-args2 .ensures .0) (c .before .before .before .before .before .before .before .if1 .left) (c .before .before .before .before .lay-both .ensures)
+returns : tie.Need-returns
+returns c =
+    let a = c .before .before .before .before .before .before .before .before .before .before .before .before .before .before .before .args in
+    any-line (a .line .now) (a .bytes .now) (a .image .now) (c .before .before .before .before .before .before .before .before .before .before .before .read-args .result) (c .before .before .before .before .before .before .before .before .before .before .read-name .result) (c .before .before .before .before .before .before .before .before .before .kinds .result) (c .before .before .before .before .before .before .before .before .before .before .before .read-args .ensures .0) (c .before .before .before .before .before .before .before .before .before .before .read-name .ensures) (c .before .before .before .before .before .before .before .before .before .kinds .ensures) (c .before .before .before .before .before .before .before .before .read-args2 .result) (c .before .before .before .before .before .before .before .before .read-args2 .ensures .0) _ refl (c .before .before .before .before .lay-both .ensures)
 
 pub read-spec : {M : Type 1} → statement M
 read-spec =
@@ -46,9 +42,8 @@ read-spec =
     read-name-requires
     kinds-requires
     read-args-requires-2
-    add-if1
-    returns
+    add-bad
     lay-both-requires
     same-length
     same-length-2
-    returns-2)
+    returns)

@@ -1,5 +1,6 @@
--- `decode` hashes what was written, which is within the words lent.
+-- `decode` hashes what was written, which is within the words lent; the product of two sides of 32 bits fits 64.
 use mathlib.Core.Path.{sym}
+use Rattle.cases.proofs.Cases.{area-fits}
 use lib.Seq.{length-take-le}
 use borrow.Author.Needs.{needs}
 use Rattle.replay.proofs.calls.decode.Statement.{statement}
@@ -8,26 +9,29 @@ use Rattle.replay.proofs.calls.decode.Tie as tie
 decode-lbmp-requires : tie.Need-decode-lbmp-requires
 decode-lbmp-requires c κs = search needs
 
-written-requires : tie.Need-written-requires
-written-requires c κs = search needs
+judged-requires : tie.Need-judged-requires
+judged-requires c κs = search needs
+
+cast-least : tie.Need-cast-least
+cast-least c = search needs
+
+cast-least-2 : tie.Need-cast-least-2
+cast-least-2 c = search needs
+
+mul-least : tie.Need-mul-least
+mul-least c = record { fits = area-fits _ _ (search needs) (search needs) }
+
+least-requires : tie.Need-least-requires
+least-requires c κs = search needs
 
 slice-reshare-prefix-hash-words : tie.Need-slice-reshare-prefix-hash-words
 slice-reshare-prefix-hash-words c = search needs
 
 slice-aggregate-hash-words : tie.Need-slice-aggregate-hash-words
-slice-aggregate-hash-words c = sym (length-take-le _ _ (c .before .written .ensures))
+slice-aggregate-hash-words c = sym (length-take-le _ _ (c .before .least .ensures .1))
 
 hash-words-requires : tie.Need-hash-words-requires
 hash-words-requires c κs = search needs
-
-enum-known-j : tie.Need-enum-known-j
-enum-known-j c = search needs
-
-number-requires : tie.Need-number-requires
-number-requires c κs = search needs
-
-enum-known-j-2 : tie.Need-enum-known-j-2
-enum-known-j-2 c = search needs
 
 same-length : tie.Need-same-length
 same-length c = search needs
@@ -35,25 +39,18 @@ same-length c = search needs
 returns : tie.Need-returns
 returns c = search needs
 
-same-length-2 : tie.Need-same-length-2
-same-length-2 c = search needs
-
-returns-2 : tie.Need-returns-2
-returns-2 c = search needs
-
 pub decode-spec : {M : Type 1} → statement M
 decode-spec =
     tie.close
     (tie.spec
     decode-lbmp-requires
-    written-requires
+    judged-requires
+    cast-least
+    cast-least-2
+    mul-least
+    least-requires
     slice-reshare-prefix-hash-words
     slice-aggregate-hash-words
     hash-words-requires
-    enum-known-j
-    number-requires
-    enum-known-j-2
     same-length
-    returns
-    same-length-2
-    returns-2)
+    returns)
