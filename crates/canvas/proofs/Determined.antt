@@ -8,24 +8,32 @@ use Rattle.canvas.specs.declared.Refusal.{Refusal}
 use Rattle.canvas.specs.declared.Refusal.the-variants.{Format, Size, Length, Source, Angle, Shape}
 use Rattle.canvas.specs.declared.Drawn.{Drawn}
 use Rattle.canvas.specs.declared.Drawn.the-variants.{Refused, Done}
+use Rattle.canvas.specs.declared.Tally.{Tally}
 use Rattle.canvas.specs.declared.Pixel.{Pixel}
 use Rattle.canvas.specs.declared.Pixel.the-variants as pixel
 use Rattle.canvas.specs.Faults.{number}
 use Rattle.canvas.specs.Call.{Outcome, statusOf, countOf, leaves}
+use Rattle.canvas.specs.Walk.{Work, work}
 use Rattle.canvas.specs.Look.{Reading, seenOf, reads}
 use Rattle.canvas.specs.Look as look
 use Rattle.canvas.proofs.lines.draw_line.Reads as draw-line
 use Rattle.canvas.proofs.plot.put_pixel.Reads as put-pixel
-use Rattle.canvas.proofs.rounds.draw_round_rect.Reads as draw-round-rect
-use Rattle.canvas.proofs.strokes.draw_arc.Reads as draw-arc
 use Rattle.canvas.proofs.boxes.draw_rect.Reads as draw-rect
 use Rattle.canvas.proofs.boxes.fill_rect.Reads as fill-rect
-use Rattle.canvas.proofs.ovals.fill_arc.Reads as fill-arc
-use Rattle.canvas.proofs.ovals.fill_round_rect.Reads as fill-round-rect
 use Rattle.canvas.proofs.areas.invert_rect.Reads as invert-rect
-use Rattle.canvas.proofs.copy.copy_area.Reads as copy-area
-use Rattle.canvas.proofs.pictures.draw.Reads as draw
 use Rattle.canvas.proofs.look.get_pixel.Reads as get-pixel
+use Rattle.canvas.proofs.faults.or_else.Reads as or-else
+use Rattle.canvas.proofs.faults.judge.Reads as judge
+use Rattle.canvas.proofs.faults.begin.Reads as begin
+use Rattle.canvas.proofs.span.lift.Reads as lift
+use Rattle.canvas.proofs.span.overlap.Reads as overlap
+use Rattle.canvas.proofs.span.window.Reads as window
+use Rattle.canvas.proofs.span.shown_in.Reads as shown-in
+use Rattle.canvas.proofs.boxes.is_empty.Reads as is-empty
+use Rattle.canvas.proofs.plot.dab.Reads as dab
+use Rattle.canvas.proofs.boxes.fill_in.Reads as fill-in
+use Rattle.canvas.proofs.boxes.edges_in.Reads as edges-in
+use Rattle.canvas.proofs.boxes.outline_in.Reads as outline-in
 use Rattle.canvas.proofs.Clip.intersect.Reads as intersect
 use Rattle.canvas.proofs.Refusal.number.Reads as number-of
 use Rattle.canvas.proofs.Drawn.status.Reads as status
@@ -96,12 +104,6 @@ reads-same p q h = same-pixel p q (ap (λ (r : Reading). r .status) h) (ap (λ (
 pub draw-line-determined : (κs : _) (a : _) (s s' : _) (r r' : _) → draw-line.Post κs a r s → draw-line.Post κs a r' s' → (r ≡ r') × (now (s .1 .0) ≡ now (s' .1 .0))
 draw-line-determined κs a s s' r r' p q = leaves-same r r' (now (s .1 .0)) (now (s' .1 .0)) (p ∙ sym q)
 
-pub draw-arc-determined : (κs : _) (a : _) (s s' : _) (r r' : _) → draw-arc.Post κs a r s → draw-arc.Post κs a r' s' → (r ≡ r') × (now (s .1 .0) ≡ now (s' .1 .0))
-draw-arc-determined κs a s s' r r' p q = leaves-same r r' (now (s .1 .0)) (now (s' .1 .0)) (p ∙ sym q)
-
-pub draw-round-rect-determined : (κs : _) (a : _) (s s' : _) (r r' : _) → draw-round-rect.Post κs a r s → draw-round-rect.Post κs a r' s' → (r ≡ r') × (now (s .1 .0) ≡ now (s' .1 .0))
-draw-round-rect-determined κs a s s' r r' p q = leaves-same r r' (now (s .1 .0)) (now (s' .1 .0)) (p ∙ sym q)
-
 pub put-pixel-determined : (κs : _) (a : _) (s s' : _) (r r' : _) → put-pixel.Post κs a r s → put-pixel.Post κs a r' s' → (r ≡ r') × (now (s .1 .0) ≡ now (s' .1 .0))
 put-pixel-determined κs a s s' r r' p q = leaves-same r r' (now (s .1 .0)) (now (s' .1 .0)) (p ∙ sym q)
 
@@ -111,20 +113,8 @@ fill-rect-determined κs a s s' r r' p q = leaves-same r r' (now (s .1 .0)) (now
 pub draw-rect-determined : (κs : _) (a : _) (s s' : _) (r r' : _) → draw-rect.Post κs a r s → draw-rect.Post κs a r' s' → (r ≡ r') × (now (s .1 .0) ≡ now (s' .1 .0))
 draw-rect-determined κs a s s' r r' p q = leaves-same r r' (now (s .1 .0)) (now (s' .1 .0)) (p ∙ sym q)
 
-pub fill-arc-determined : (κs : _) (a : _) (s s' : _) (r r' : _) → fill-arc.Post κs a r s → fill-arc.Post κs a r' s' → (r ≡ r') × (now (s .1 .0) ≡ now (s' .1 .0))
-fill-arc-determined κs a s s' r r' p q = leaves-same r r' (now (s .1 .0)) (now (s' .1 .0)) (p ∙ sym q)
-
-pub fill-round-rect-determined : (κs : _) (a : _) (s s' : _) (r r' : _) → fill-round-rect.Post κs a r s → fill-round-rect.Post κs a r' s' → (r ≡ r') × (now (s .1 .0) ≡ now (s' .1 .0))
-fill-round-rect-determined κs a s s' r r' p q = leaves-same r r' (now (s .1 .0)) (now (s' .1 .0)) (p ∙ sym q)
-
 pub invert-rect-determined : (κs : _) (a : _) (s s' : _) (r r' : _) → invert-rect.Post κs a r s → invert-rect.Post κs a r' s' → (r ≡ r') × (now (s .1 .0) ≡ now (s' .1 .0))
 invert-rect-determined κs a s s' r r' p q = leaves-same r r' (now (s .1 .0)) (now (s' .1 .0)) (p ∙ sym q)
-
-pub copy-area-determined : (κs : _) (a : _) (s s' : _) (r r' : _) → copy-area.Post κs a r s → copy-area.Post κs a r' s' → (r ≡ r') × (now (s .1 .0) ≡ now (s' .1 .0))
-copy-area-determined κs a s s' r r' p q = leaves-same r r' (now (s .1 .0)) (now (s' .1 .0)) (p ∙ sym q)
-
-pub draw-determined : (κs : _) (a : _) (s s' : _) (r r' : _) → draw.Post κs a r s → draw.Post κs a r' s' → (r ≡ r') × (now (s .1 .0) ≡ now (s' .1 .0))
-draw-determined κs a s s' r r' p q = leaves-same r r' (now (s .1 .0)) (now (s' .1 .0)) (p ∙ sym q)
 
 pub get-pixel-determined : (κs : _) (a : _) (s s' : _) (r r' : _) → get-pixel.Post κs a r s → get-pixel.Post κs a r' s' → r ≡ r'
 get-pixel-determined κs a s s' r r' p q = reads-same r r' (p ∙ sym q)
@@ -140,3 +130,44 @@ status-determined κs a s s' r r' p q = p ∙ sym q
 
 pub count-determined : (κs : _) (a : _) (s s' : _) (r r' : _) → count.Post κs a r s → count.Post κs a r' s' → r ≡ r'
 count-determined κs a s s' r r' p q = p ∙ sym q
+
+-- ---- what calls are made of
+
+worked-same : (b b′ : List ℕ) (t t′ : Tally) → work b t ≡ work b′ t′ → (t ≡ t′) × (b ≡ b′)
+worked-same b b′ t t′ h = (ap (λ (w : Work). w .tally) h, ap (λ (w : Work). w .bytes) h)
+
+pub or-else-determined : (κs : _) (a : _) (s s' : _) (r r' : _) → or-else.Post κs a r s → or-else.Post κs a r' s' → r ≡ r'
+or-else-determined κs a s s' r r' p q = p ∙ sym q
+
+pub judge-determined : (κs : _) (a : _) (s s' : _) (r r' : _) → judge.Post κs a r s → judge.Post κs a r' s' → r ≡ r'
+judge-determined κs a s s' r r' p q = p ∙ sym q
+
+pub begin-determined : (κs : _) (a : _) (s s' : _) (r r' : _) → begin.Post κs a r s → begin.Post κs a r' s' → r ≡ r'
+begin-determined κs a s s' r r' p q = p ∙ sym q
+
+pub lift-determined : (κs : _) (a : _) (s s' : _) (r r' : _) → lift.Post κs a r s → lift.Post κs a r' s' → r ≡ r'
+lift-determined κs a s s' r r' p q = p ∙ sym q
+
+pub overlap-determined : (κs : _) (a : _) (s s' : _) (r r' : _) → overlap.Post κs a r s → overlap.Post κs a r' s' → r ≡ r'
+overlap-determined κs a s s' r r' p q = p ∙ sym q
+
+pub window-determined : (κs : _) (a : _) (s s' : _) (r r' : _) → window.Post κs a r s → window.Post κs a r' s' → r ≡ r'
+window-determined κs a s s' r r' p q = p ∙ sym q
+
+pub shown-in-determined : (κs : _) (a : _) (s s' : _) (r r' : _) → shown-in.Post κs a r s → shown-in.Post κs a r' s' → r ≡ r'
+shown-in-determined κs a s s' r r' p q = p ∙ sym q
+
+pub is-empty-determined : (κs : _) (a : _) (s s' : _) (r r' : _) → is-empty.Post κs a r s → is-empty.Post κs a r' s' → r ≡ r'
+is-empty-determined κs a s s' r r' p q = p ∙ sym q
+
+pub dab-determined : (κs : _) (a : _) (s s' : _) (r r' : _) → dab.Post κs a r s → dab.Post κs a r' s' → (r ≡ r') × (now (s .1 .0) ≡ now (s' .1 .0))
+dab-determined κs a s s' r r' p q = worked-same (now (s .1 .0)) (now (s' .1 .0)) r r' (p ∙ sym q)
+
+pub fill-in-determined : (κs : _) (a : _) (s s' : _) (r r' : _) → fill-in.Post κs a r s → fill-in.Post κs a r' s' → (r ≡ r') × (now (s .1 .0) ≡ now (s' .1 .0))
+fill-in-determined κs a s s' r r' p q = worked-same (now (s .1 .0)) (now (s' .1 .0)) r r' (p .same ∙ sym (q .same))
+
+pub edges-in-determined : (κs : _) (a : _) (s s' : _) (r r' : _) → edges-in.Post κs a r s → edges-in.Post κs a r' s' → (r ≡ r') × (now (s .1 .0) ≡ now (s' .1 .0))
+edges-in-determined κs a s s' r r' p q = worked-same (now (s .1 .0)) (now (s' .1 .0)) r r' (p .same ∙ sym (q .same))
+
+pub outline-in-determined : (κs : _) (a : _) (s s' : _) (r r' : _) → outline-in.Post κs a r s → outline-in.Post κs a r' s' → (r ≡ r') × (now (s .1 .0) ≡ now (s' .1 .0))
+outline-in-determined κs a s s' r r' p q = worked-same (now (s .1 .0)) (now (s' .1 .0)) r r' (p .same ∙ sym (q .same))

@@ -1,5 +1,5 @@
 -- Calls with XOR on, made one after the other: any order leaves the same bytes and gives each its answer, and made again,
--- in any order, they are taken away. Proved over the laws of words and of bytes; a new call adds a case of `Colored`, `shade` and `shaded`.
+-- in any order, they are taken away. Proved over the laws of words and of bytes; a shape is any points in one colour.
 use mathlib.Core.Path.{_≡_, refl, sym, ap, ap₂, _∙_}
 use mathlib.Core.Bool.{Bool, true, false, cond, _||_}
 use mathlib.Core.List.{List, [], _∷_, _++_, map, append-assoc, List·Permᴰ, List·Permᴰ·nil, List·Permᴰ·cons, List·Permᴰ·swap, List·Permᴰ·trans, Permᴰ·append-right, Permᴰ·append-left, List·Permᴰ·append-comm}
@@ -22,7 +22,7 @@ use Rattle.pixels.specs.Bytes.{form, On}
 use Rattle.canvas.specs.Faults.{orElse, verdict}
 use Rattle.canvas.specs.Plot.{Point, Dot, tint, plot, dip, landed, fate, hitOf, hits}
 use Rattle.pixels.specs.Hits.{Hit, paint}
-use Rattle.canvas.specs.Call.{Call, putPixel, drawLine, drawRect, fillRect, drawArc, fillArc, drawRoundRect, fillRoundRect, draw, clipOf, faultOf, sourceColor, dots, brush, plots, ruled, drawing, call}
+use Rattle.canvas.specs.Call.{Call, shape, draw, clipOf, faultOf, sourceColor, dots, brush, plots, ruled, drawing, call}
 use Rattle.pixels.specs.Rows.{each}
 use Rattle.canvas.specs.Boxes.{picture}
 use Rattle.canvas.specs.Calls.{after, unless, landing}
@@ -35,14 +35,7 @@ use Rattle.canvas.proofs.plot.Landed.{keep-all}
 
 -- calls whose colours are of bytes, as every caller's are
 abbrev pub Colored : Call → Type 0
-Colored (putPixel x y color clip) = Channels color
-Colored (drawLine x1 y1 x2 y2 color clip) = Channels color
-Colored (drawRect x y w h color clip) = Channels color
-Colored (fillRect x y w h color clip) = Channels color
-Colored (drawArc x y w h start arc color clip) = Channels color
-Colored (fillArc x y w h start arc color clip) = Channels color
-Colored (drawRoundRect x y w h aw ah color clip) = Channels color
-Colored (fillRoundRect x y w h aw ah color clip) = Channels color
+Colored (shape own points color clip) = Channels color
 Colored (draw dx dy w h source image sx sy clip) = Unit {0}
 
 pub data Fine : List Call → Type 0 where
@@ -53,14 +46,7 @@ pub data Fine : List Call → Type 0 where
 
 -- the colour that is plotted for a dot's
 abbrev pub shade : Call → Color → Color
-shade (putPixel x y color clip) c = c
-shade (drawLine x1 y1 x2 y2 color clip) c = c
-shade (drawRect x y w h color clip) c = c
-shade (fillRect x y w h color clip) c = c
-shade (drawArc x y w h start arc color clip) c = c
-shade (fillArc x y w h start arc color clip) c = c
-shade (drawRoundRect x y w h aw ah color clip) c = c
-shade (fillRoundRect x y w h aw ah color clip) c = c
+shade (shape own points color clip) c = c
 shade (draw dx dy w h source image sx sy clip) c = scaled c
 
 pub record Shaded (v : Canvas) (k : Call) (c : Color) : Type 0 where
@@ -105,14 +91,7 @@ blends v x c = ap (λ (t : Bool). blendWord (form v) t c) x
 
 pub shaded : (v : Canvas) → v .xor ≡ true → (k : Call) → Colored k → Dots v k (dots v k)
 unfolding dots
-shaded v x (putPixel px py color clip) c = tinted v _ color _ (record { channels = c; alike = refl; plain = ap (λ (t : Bool). plotWord (form v) t color) x })
-shaded v x (drawLine x1 y1 x2 y2 color clip) c = tinted v _ color _ (record { channels = c; alike = refl; plain = ap (λ (t : Bool). plotWord (form v) t color) x })
-shaded v x (drawRect px py w h color clip) c = tinted v _ color _ (record { channels = c; alike = refl; plain = ap (λ (t : Bool). plotWord (form v) t color) x })
-shaded v x (fillRect px py w h color clip) c = tinted v _ color _ (record { channels = c; alike = refl; plain = ap (λ (t : Bool). plotWord (form v) t color) x })
-shaded v x (drawArc px py w h start arc color clip) c = tinted v _ color _ (record { channels = c; alike = refl; plain = ap (λ (t : Bool). plotWord (form v) t color) x })
-shaded v x (fillArc px py w h start arc color clip) c = tinted v _ color _ (record { channels = c; alike = refl; plain = ap (λ (t : Bool). plotWord (form v) t color) x })
-shaded v x (drawRoundRect px py w h aw ah color clip) c = tinted v _ color _ (record { channels = c; alike = refl; plain = ap (λ (t : Bool). plotWord (form v) t color) x })
-shaded v x (fillRoundRect px py w h aw ah color clip) c = tinted v _ color _ (record { channels = c; alike = refl; plain = ap (λ (t : Bool). plotWord (form v) t color) x })
+shaded v x (shape own points color clip) c = tinted v _ color _ (record { channels = c; alike = refl; plain = ap (λ (t : Bool). plotWord (form v) t color) x })
 shaded v x (draw dx dy w h source image sx sy clip) c =
     pictured v _ (sourceColor source image dx dy sx sy)
     (λ i j. let k : Color = sourceColor source image dx dy sx sy i j in

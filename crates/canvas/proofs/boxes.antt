@@ -1,3 +1,4 @@
 -- The laws of boxes.
 pub mod Boxes
 pub mod Outline
+pub mod Chains

@@ -1,3 +1,2 @@
 -- What the faults of a canvas mean.
 pub mod Verdicts
-pub mod Bounds

@@ -1,7 +1,7 @@
 -- Boxes: the points that a fill and an outline plot.
 use mathlib.Core.Bool.{Bool, cond, _||_}
 use mathlib.Core.List.{List, [], _∷_, _++_}
-use Prim.Native.Nat.{ℕ, zero, suc, _-_}
+use Prim.Native.Nat.{ℕ, zero, suc, _*_, _-_}
 use lib.Dec.{eqb}
 use lib.IntN.{ℤ, pos, _+ℤ_, _-ℤ_}
 use lib.Signed.{ltZ}
@@ -56,3 +56,11 @@ border v x y w h =
 -- "A rectangle outline with w or h 0 is nothing, else with w or h 1 a fill; otherwise each border point is plotted once."
 unfoldable pub outline : Canvas → ℤ → ℤ → ℕ → ℕ → List Point
 outline v x y w h = cond (eqb w 0 || eqb h 0) [] (cond (eqb w 1 || eqb h 1) (fill v x y w h) (border v x y w h))
+
+-- "The outline plots the top and bottom rows from left + round(rx) to right - round(rx), the two sides likewise by ry": ix and iy are round(rx) and round(ry).
+unfoldable pub edges : Canvas → ℤ → ℤ → ℕ → ℕ → ℕ → ℕ → List Point
+edges v x y w h ix iy =
+    let right = x +ℤ pos (w - 1) in
+    let bottom = y +ℤ pos (h - 1) in
+    fill v (x +ℤ pos ix) y (w - 2 * ix) 1 ++ (fill v (x +ℤ pos ix) bottom (w - 2 * ix) 1
+    ++ (fill v x (y +ℤ pos iy) 1 (h - 2 * iy) ++ fill v right (y +ℤ pos iy) 1 (h - 2 * iy)))

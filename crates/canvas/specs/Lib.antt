@@ -3,13 +3,10 @@ pub mod Clip
 pub mod Plot
 pub mod Lines
 pub mod Boxes
-pub mod Strokes
-pub mod Curves
 pub mod Call
 pub mod Calls
 pub mod Areas
 pub mod Look
 pub mod Walk
 pub mod Trail
-pub mod Sift
 pub mod Start

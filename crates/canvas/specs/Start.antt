@@ -1,4 +1,4 @@
--- How the calls of one colour start; no public contract cites this file.
+-- How the calls of one colour start; no contract of a call cites this file.
 use Rattle.words.specs.declared.Color.{Color}
 use Rattle.words.specs.Ink.{plotInk}
 use Rattle.pixels.specs.declared.Canvas.{Canvas}

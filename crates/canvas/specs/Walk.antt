@@ -1,30 +1,22 @@
--- What the contracts of the inner functions speak of; no public contract cites this file.
+-- What the contracts of the functions that calls are made of speak of; no contract of a call cites this file.
 use mathlib.Core.Path.{_≡_}
-use mathlib.Core.Bool.{Bool, true, false, cond, not}
-use mathlib.Core.List.{List, [], _∷_, _++_}
-use Prim.Native.Nat.{ℕ, _+_, _-_, _<_, _≤_}
+use mathlib.Core.Bool.{Bool, true, false, cond}
+use mathlib.Core.List.{List, [], _∷_}
+use Prim.Native.Nat.{ℕ, _+_, _-_, _<_, _≤_, min, max}
 use lib.Dec.{leb, ltb}
 use lib.IntN.{ℤ, pos, negsuc, subℕ}
-use lib.Ieee.{Float}
 use lib.Signed.{leZ, ltZ}
-use lib.ListN.{length, getD}
 use Rattle.words.specs.declared.Ink.{Ink}
-use Rattle.words.specs.Format.{Format, argb, range}
-use Rattle.words.specs.Word.{toColor, seen}
+use Rattle.words.specs.Format.{range}
 use Rattle.words.specs.Ink.{inked}
-use Rattle.blending.specs.Blend.{blendWord}
-use Rattle.angle.specs.Stroke.{radians}
-use Rattle.curves.specs.declared.corners.Corners.{Corners}
-use Rattle.curves.specs.Corners.{cornerOf}
 use Rattle.pixels.specs.declared.Canvas.{Canvas}
 use Rattle.canvas.specs.declared.Clip.{Clip}
 use Rattle.canvas.specs.declared.Tally.{Tally}
 use Rattle.pixels.specs.declared.rows.Span.{Span}
-use Rattle.pixels.specs.Bytes.{form, loadAt, Sized}
+use Rattle.pixels.specs.Bytes.{form, Sized}
 use Rattle.canvas.specs.Clip.{both, within}
 use Rattle.canvas.specs.Boxes.{select, sourceOf}
 use Rattle.pixels.specs.Rows.{run}
-use Rattle.canvas.specs.Strokes.{stroke}
 use Rattle.canvas.specs.Plot.{Point, Plot, plot, Fate, landed, outside, clipped, fate, hitOf}
 use Rattle.pixels.specs.Hits.{touch}
 
@@ -42,7 +34,17 @@ pub record Holds (t : ℕ → Bool) (lo end : ℕ) : Type 0 where
   pub inside : (k : ℕ) → lo ≤ k → k < end → t k ≡ true
   pub past : (k : ℕ) → end ≤ k → t k ≡ false
 
--- What `cut` answers: of a side of n pixels, those from lo up to end that lie in the clip's span of m from c.
+abbrev pub span : ℕ → ℕ → Span
+span a b = record { from = a; to = b }
+
+-- What the numbers from lo up to end have of a side of n pixels inside the clip's span of m from c; where that is nothing, from 0 up to 0.
+unfoldable pub cutOf : ℕ → ℕ → ℤ → ℕ → ℕ → Span
+cutOf lo end c m n =
+    let from = max lo (lifted c - 2147483648) in
+    let to = min (min end (lifted c + m - 2147483648)) n in
+    cond (ltb to from) (span 0 0) (span from to)
+
+-- What such a span is: of a side of n pixels, those from lo up to end that lie in the clip's span of m from c.
 pub record Cut (lo end : ℕ) (c : ℤ) (m n from to : ℕ) : Type 0 where
   pub ordered : from ≤ to
   pub held : to ≤ n
@@ -96,21 +98,12 @@ pub record Keeps (v : Canvas) (i : Ink) : Type 0 where
 pub record Did (v : Canvas) (c : Clip) (ps : List Plot) (w w′ : Work) : Type 0 where
   pub same : w′ ≡ drawn v c ps w
 
--- What reading sees of each word.
-pub record SeenAs (f : Format) (ws ws′ : List ℕ) : Type 0 where
-  pub long : length ws′ ≡ length ws
-  pub word : (i : ℕ) → i < length ws → getD ws′ i 0 ≡ seen f (getD ws i 0)
-
--- What is seen, in these bytes, of the pixel as far from sx and sy as a pixel is from x and y.
-abbrev pub shifted : Canvas → List ℕ → ℕ → ℕ → ℕ → ℕ → ℕ → ℕ → ℕ → ℕ
-shifted v b x y sx sy i j w = seen (form v) (loadAt v b (sx + (i - x)) (sy + (j - y)))
-
 -- The source of what is shown begins at from + s - p, and is on its side of m.
 pub record Sourced (p s m from to : ℕ) : Type 0 where
   pub begins : from < to → p ≤ from + s
   pub ends : from < to → from + s - p + (to - from) ≤ m
 
--- What `shown_in` answers: of a side of n pixels, those in the span of len from p whose source, from s on, is on a side of m, and
+-- What a span with a source is: of a side of n pixels, those in the span of len from p whose source, from s on, is on a side of m, and
 -- that lie in the clip's span of k from c.
 pub record Shown (p s len m : ℕ) (c : ℤ) (k n from to : ℕ) : Type 0 where
   pub ordered : from ≤ to
@@ -118,14 +111,6 @@ pub record Shown (p s len m : ℕ) (c : ℤ) (k n from to : ℕ) : Type 0 where
   pub same : run from (to - from)
       ≡ select (λ i. both (both (within (lowered p) len (pos i)) (within (pos 0) m (sourceOf (lowered p) (lowered s) i))) (within c k (pos i))) 0 n
   pub sourced : Sourced p s m from to
-
--- What drawing makes of the word at a pixel, with the source's pixel as far from sx and sy as the pixel is from x and y.
-abbrev pub overlaid : Canvas → Canvas → List ℕ → ℕ → ℕ → ℕ → ℕ → ℕ → ℕ → ℕ → ℕ
-overlaid v s image x y sx sy i j w = blendWord (form v) (v .xor) (toColor (form s) (loadAt s image (sx + (i - x)) (sy + (j - y)))) w
-
--- Colours read from an image whose format keeps no alpha are solid.
-pub record Solid (format : ℕ) (cs : List ℕ) : Type 0 where
-  pub solid : format < 3 → (i : ℕ) → i < length cs → toColor argb (getD cs i 0) .a ≡ 255
 
 -- Whether a column or row is one of a span.
 unfoldable pub covers : Span → ℤ → Bool
@@ -150,9 +135,3 @@ pub record Fields (v : Canvas) (xs ys : Span) : Type 0 where
 pub record Window (v : Canvas) (c : Clip) (xs ys : Span) : Type 0 where
   pub columns : Cut 0 (v .width) (c .x) (c .width) (v .width) (xs .from) (xs .to)
   pub rows : Cut 0 (v .height) (c .y) (c .height) (v .height) (ys .from) (ys .to)
-
--- The two upper or lower quarters at the corners of a round rectangle, from these angles in radians.
-abbrev pub half : Canvas → Corners → Bool → Float → Float → List Point
-half v c low first second =
-    let quarter = radians (pos 90) in
-    stroke v (cornerOf c (not low) low) first quarter ++ stroke v (cornerOf c low low) second quarter

@@ -1,4 +1,4 @@
-// Area calls, which ignore XOR.
+// Inversion, which ignores XOR.
 ghost use mathlib.Core.Path.{_≡_};
 ghost use Rattle.canvas.specs.Call.{leaves};
 ghost use Rattle.canvas.specs.Areas.{invertRect};

@@ -7,7 +7,7 @@ ghost use lib.Dec.{eqb};
 ghost use Rattle.words.specs.Ink.{inked};
 ghost use Rattle.canvas.specs.Plot.{inks};
 ghost use Rattle.canvas.specs.Boxes.{fill, outline};
-ghost use Rattle.canvas.specs.Strokes.{edges};
+ghost use Rattle.canvas.specs.Boxes.{edges};
 ghost use Rattle.canvas.specs.Call.{drawRect, fillRect, leaves, call};
 ghost use Rattle.canvas.specs.Walk.{lowered, work, Keeps, Ready, Did};
 use crate::Clip;
@@ -17,16 +17,15 @@ use crate::faults::Start;
 use crate::faults::Verdict;
 use crate::faults::begin;
 use crate::plot::landed_more;
-use crate::span::cut;
 use crate::span::lift;
-use crate::span::reach;
+use crate::span::overlap;
 use pixels::Canvas;
 use pixels::rows::ink_box;
 use words::Color;
 use words::Ink;
 
 // Whether a box of these sides has no pixels.
-pub(crate) fn is_empty(w: u32, h: u32) -> bool
+pub fn is_empty(w: u32, h: u32) -> bool
     ensures { λ r. ⌜ r ≡ (eqb w 0 || eqb h 0) ⌝ }
 {
     if w == 0 {
@@ -36,7 +35,7 @@ pub(crate) fn is_empty(w: u32, h: u32) -> bool
 }
 
 // The plots of a filled box with a lifted corner.
-pub(crate) fn fill_in(
+pub fn fill_in(
     canvas: Canvas,
     b: &mut [u8],
     p: u64,
@@ -50,8 +49,8 @@ pub(crate) fn fill_in(
     requires { ⌜ (Ready canvas clip (inks (inked ink) (fill canvas (lowered p) (lowered q) w h)) (work (now b) t)) × ((p < 17179869184) × (q < 17179869184)) ⌝ }
     ensures { λ r. ⌜ Did canvas clip (inks (inked ink) (fill canvas (lowered p) (lowered q) w h)) (work (now (b .entry)) t) (work (now (b .exit)) r) ⌝ }
 {
-    let xs = cut(reach(p, w, 2147483648), clip.x, clip.width, canvas.width);
-    let ys = cut(reach(q, h, 2147483648), clip.y, clip.height, canvas.height);
+    let xs = overlap(p, w, clip.x, clip.width, canvas.width);
+    let ys = overlap(q, h, clip.y, clip.height, canvas.height);
     let n = (ys.to - ys.from) * (xs.to - xs.from);
     ink_box(canvas, b, xs, ys, ink);
     landed_more(t, n as u64)
@@ -113,7 +112,7 @@ fn pair_in(
 }
 
 // The plots of the straight edges of a box with a lifted corner, which are this far in from its corners.
-pub(crate) fn edges_in(
+pub fn edges_in(
     canvas: Canvas,
     b: &mut [u8],
     p: u64,
@@ -141,7 +140,7 @@ pub(crate) fn edges_in(
 
 // The plots of an outline with a lifted corner: of a box of one column or row the fill, of a larger one the edges, with the
 // corners in the rows.
-pub(crate) fn outline_in(
+pub fn outline_in(
     canvas: Canvas,
     b: &mut [u8],
     p: u64,

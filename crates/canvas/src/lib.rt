@@ -1,34 +1,24 @@
-// The canvas: a record by value beside lent bytes, clips, and the drawing calls.
+// The canvas: a record by value beside lent bytes, clips, and the calls that draw points, lines and boxes; and what the
+// calls of images and ovals are made of.
 ghost use mathlib.Core.Path.{_≡_};
 ghost use Rattle.canvas.specs.Faults.{number};
 ghost use Rattle.canvas.specs.Clip.{intersection};
 ghost use Rattle.canvas.specs.Call.{statusOf, countOf};
 
 mod areas;
-mod boxes;
-mod copy;
-mod faults;
+pub mod boxes;
+pub mod faults;
 mod lines;
 mod look;
-mod ovals;
-mod pictures;
-mod plot;
-mod rounds;
-mod span;
-mod strokes;
+pub mod plot;
+pub mod span;
 
 pub use areas::invert_rect;
 pub use boxes::draw_rect;
 pub use boxes::fill_rect;
-pub use copy::copy_area;
 pub use lines::draw_line;
 pub use look::get_pixel;
-pub use ovals::fill_arc;
-pub use ovals::fill_round_rect;
-pub use pictures::draw;
 pub use plot::put_pixel;
-pub use rounds::draw_round_rect;
-pub use strokes::draw_arc;
 use words::Color;
 
 pub struct Clip {

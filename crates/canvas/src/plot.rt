@@ -25,9 +25,8 @@ pub(crate) fn landed_more(t: Tally, n: u64) -> Tally
     requires { ⌜ Fits (plus t n) ⌝ }
     ensures { λ r. ⌜ r ≡ plus t n ⌝ }
 {
-    Tally {
-        landed: t.landed + n,
-    }
+    let landed = t.landed + n;
+    Tally { landed }
 }
 
 // Whether a lifted number is one of a span.
@@ -43,7 +42,7 @@ fn is_covered(s: Span, p: u64) -> bool
 
 // A plot at a lifted point that can land on some columns and rows alone. The bytes of a word, n, are a literal in each
 // caller, and the choice by them falls away where the compiler takes the caller's loop into its arms.
-pub(crate) fn dab(
+pub fn dab(
     canvas: Canvas,
     b: &mut [u8],
     xs: Span,

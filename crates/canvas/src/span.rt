@@ -1,17 +1,24 @@
 // Spans and clips: signed corners become numbers that are not negative at the door.
 ghost use mathlib.Core.Path.{_≡_};
 ghost use Prim.Native.Nat.{_+_, _-_, _≤_, _<_, min, max};
-ghost use lib.IntN.{pos};
+ghost use lib.IntN.{pos, _+ℤ_};
 ghost use Rattle.canvas.specs.Clip.{within, inClip, larger, shared};
-ghost use Rattle.canvas.specs.Walk.{lifted, lowered, Cut, Shown};
+ghost use Rattle.canvas.specs.Walk.{lifted, lowered, cutOf};
 use crate::Clip;
 use pixels::rows::Span;
 
+// 2^31 above a signed number.
+fn raised(x: i32) -> i64
+    ensures { λ r. ⌜ r ≡ x +ℤ pos 2147483648 ⌝ }
+{
+    x as i64 + 2147483648
+}
+
 // A signed number as one that is not negative, 2^31 above it.
-pub(crate) fn lift(x: i32) -> u64
+pub fn lift(x: i32) -> u64
     ensures { λ r. ⌜ r ≡ lifted x ⌝ }
 {
-    (x as i64 + 2147483648) as u64
+    raised(x) as u64
 }
 
 // What a has above b.
@@ -77,7 +84,7 @@ pub(crate) fn on_side(p: u64, n: u32) -> bool
 }
 
 // The span of len from u, as it is seen from z: what lies before z is cut off.
-pub(crate) fn reach(u: u64, len: u32, z: u64) -> Span
+fn reach(u: u64, len: u32, z: u64) -> Span
     requires { ⌜ u < 17179869184 ⌝ }
     ensures { λ r. ⌜ (r .from ≡ u - z) × (r .to ≡ u + len - z) ⌝ }
 {
@@ -90,9 +97,9 @@ pub(crate) fn reach(u: u64, len: u32, z: u64) -> Span
 }
 
 // What a span has of a canvas's side of n pixels inside the clip's span of m from c.
-pub(crate) fn cut(s: Span, c: i32, m: u32, n: u32) -> Span
+fn cut(s: Span, c: i32, m: u32, n: u32) -> Span
     requires { ⌜ n ≤ 32767 ⌝ }
-    ensures { λ r. ⌜ Cut (s .from) (s .to) c m n (r .from) (r .to) ⌝ }
+    ensures { λ r. ⌜ r ≡ cutOf (s .from) (s .to) c m n ⌝ }
 {
     let k = reach(lift(c), m, 2147483648);
     let from = most(s.from as u64, k.from as u64);
@@ -107,10 +114,18 @@ pub(crate) fn cut(s: Span, c: i32, m: u32, n: u32) -> Span
     }
 }
 
+// What the span of len from a lifted p has of a canvas's side of n pixels inside the clip's span of m from c.
+pub fn overlap(p: u64, len: u32, c: i32, m: u32, n: u32) -> Span
+    requires { ⌜ (p < 17179869184) × (n ≤ 32767) ⌝ }
+    ensures { λ r. ⌜ r ≡ cutOf (p - 2147483648) (p + len - 2147483648) c m n ⌝ }
+{
+    cut(reach(p, len, 2147483648), c, m, n)
+}
+
 // A canvas's side of n pixels inside the clip's span of m from c.
-pub(crate) fn window(c: i32, m: u32, n: u32) -> Span
+pub fn window(c: i32, m: u32, n: u32) -> Span
     requires { ⌜ n ≤ 32767 ⌝ }
-    ensures { λ r. ⌜ Cut 0 n c m n (r .from) (r .to) ⌝ }
+    ensures { λ r. ⌜ r ≡ cutOf 0 n c m n ⌝ }
 {
     let all = Span {
         from: 0,
@@ -133,9 +148,9 @@ fn meet(a: Span, b: Span) -> Span
 
 // The part of a canvas's side of n pixels that lies in the span of len from p and in the clip's, and whose source from s
 // on is on a side of m. Starts are lifted.
-pub(crate) fn shown_in(p: u64, s: u64, len: u32, m: u32, c: i32, k: u32, n: u32) -> Span
+pub fn shown_in(p: u64, s: u64, len: u32, m: u32, c: i32, k: u32, n: u32) -> Span
     requires { ⌜ (n ≤ 32767) × ((p < 4294967296) × (s < 4294967296)) ⌝ }
-    ensures { λ r. ⌜ Shown p s len m c k n (r .from) (r .to) ⌝ }
+    ensures { λ r. ⌜ r ≡ cutOf (max (p - 2147483648) (p - s)) (min (p + len - 2147483648) (p + m - s)) c k n ⌝ }
 {
     let own = reach(p, len, 2147483648);
     let source = reach(p, m, s);
@@ -163,14 +178,4 @@ pub(crate) fn shared_by(a: i32, m: u32, b: i32, n: u32) -> u32
         return 0;
     }
     (end - start) as u32
-}
-
-// The smaller of two numbers of pixels.
-pub(crate) fn fewer(a: usize, b: usize) -> usize
-    ensures { λ r. ⌜ r ≡ min a b ⌝ }
-{
-    if a < b {
-        return a;
-    }
-    b
 }

@@ -145,7 +145,7 @@ fn picture(v: Canvas, n: [u32; 16], bytes: &mut [u8], image: &[u8]) -> Answer {
     let sx = int(n, 8);
     let sy = int(n, 9);
     let k = clip(n, 10);
-    let d = canvas::draw(v, bytes, r.x, r.y, r.w, r.h, source, image, sx, sy, k);
+    let d = images::draw(v, bytes, r.x, r.y, r.w, r.h, source, image, sx, sy, k);
     counted(DRAW, d, cases::hash(bytes))
 }
 
@@ -160,11 +160,11 @@ fn call(name: u64, v: Canvas, n: [u32; 16], bytes: &mut [u8]) -> Drawn {
         LINE => canvas::draw_line(v, bytes, r.x, r.y, signed(r.w), signed(r.h), c, k),
         RECT => canvas::draw_rect(v, bytes, r.x, r.y, r.w, r.h, c, k),
         FILL => canvas::fill_rect(v, bytes, r.x, r.y, r.w, r.h, c, k),
-        ARC => canvas::draw_arc(v, bytes, r.x, r.y, r.w, r.h, signed(r.s), signed(r.t), c, k),
-        PIE => canvas::fill_arc(v, bytes, r.x, r.y, r.w, r.h, signed(r.s), signed(r.t), c, k),
-        RRECT => canvas::draw_round_rect(v, bytes, r.x, r.y, r.w, r.h, r.s, r.t, c, k),
-        FRRECT => canvas::fill_round_rect(v, bytes, r.x, r.y, r.w, r.h, r.s, r.t, c, k),
-        COPY => canvas::copy_area(v, bytes, r.x, r.y, signed(r.w), signed(r.h), r.s, r.t, k),
+        ARC => ovals::draw_arc(v, bytes, r.x, r.y, r.w, r.h, signed(r.s), signed(r.t), c, k),
+        PIE => ovals::fill_arc(v, bytes, r.x, r.y, r.w, r.h, signed(r.s), signed(r.t), c, k),
+        RRECT => ovals::draw_round_rect(v, bytes, r.x, r.y, r.w, r.h, r.s, r.t, c, k),
+        FRRECT => ovals::fill_round_rect(v, bytes, r.x, r.y, r.w, r.h, r.s, r.t, c, k),
+        COPY => images::copy_area(v, bytes, r.x, r.y, signed(r.w), signed(r.h), r.s, r.t, k),
         _ => canvas::invert_rect(v, bytes, r.x, r.y, r.w, r.h, k),
     }
 }

@@ -1,2 +1,3 @@
 pub mod Cheats
+pub mod Runs
 pub mod Screens

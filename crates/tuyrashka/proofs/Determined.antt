@@ -9,10 +9,10 @@ use Rattle.tuyrashka.proofs.tuyrashka_put_pixel.Reads as put-pixel
 use Rattle.tuyrashka.proofs.tuyrashka_draw_line.Reads as draw-line
 use Rattle.tuyrashka.proofs.tuyrashka_draw_rect.Reads as draw-rect
 use Rattle.tuyrashka.proofs.tuyrashka_fill_rect.Reads as fill-rect
-use Rattle.tuyrashka.proofs.ovals.tuyrashka_draw_arc.Reads as draw-arc
-use Rattle.tuyrashka.proofs.ovals.tuyrashka_fill_arc.Reads as fill-arc
-use Rattle.tuyrashka.proofs.ovals.tuyrashka_draw_round_rect.Reads as draw-round-rect
-use Rattle.tuyrashka.proofs.ovals.tuyrashka_fill_round_rect.Reads as fill-round-rect
+use Rattle.tuyrashka.proofs.rounds.tuyrashka_draw_arc.Reads as draw-arc
+use Rattle.tuyrashka.proofs.rounds.tuyrashka_fill_arc.Reads as fill-arc
+use Rattle.tuyrashka.proofs.rounds.tuyrashka_draw_round_rect.Reads as draw-round-rect
+use Rattle.tuyrashka.proofs.rounds.tuyrashka_fill_round_rect.Reads as fill-round-rect
 use Rattle.tuyrashka.proofs.tuyrashka_invert_rect.Reads as invert-rect
 use Rattle.tuyrashka.proofs.tuyrashka_copy_area.Reads as copy-area
 use Rattle.tuyrashka.proofs.tuyrashka_draw.Reads as draw

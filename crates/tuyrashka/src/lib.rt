@@ -1,12 +1,13 @@
 // What C and Rust link: the calls on numbers and slices, declared in include/tuyrashka.h.
 ghost use mathlib.Core.Path.{_≡_};
 ghost use Rattle.canvas.specs.Call.{putPixel, drawLine, drawRect, fillRect, draw, outcome, call};
-ghost use Rattle.canvas.specs.Areas.{copyArea, invertRect};
+ghost use Rattle.images.specs.Areas.{copyArea};
+ghost use Rattle.canvas.specs.Areas.{invertRect};
 ghost use Rattle.canvas.specs.Look.{pixelAt};
 ghost use Rattle.tuyrashka.specs.Exported.{canvas, source, clip, colorOf, told, tells};
 
 mod bitmap;
-mod ovals;
+mod rounds;
 
 use canvas::Clip;
 use canvas::Pixel;
@@ -222,7 +223,7 @@ pub extern "C" fn tuyrashka_copy_area(
 {
     let v = canvas_of(format, width, height, xor);
     let c = clip_of(cx, cy, cw, ch);
-    let d = canvas::copy_area(v, bytes, dx, dy, sx, sy, w, h, c);
+    let d = images::copy_area(v, bytes, dx, dy, sx, sy, w, h, c);
     *count = d.count();
     d.status()
 }
@@ -255,7 +256,7 @@ pub extern "C" fn tuyrashka_draw(
     let v = canvas_of(format, width, height, xor);
     let s = canvas_of(source_format, source_width, source_height, false);
     let c = clip_of(cx, cy, cw, ch);
-    let d = canvas::draw(v, bytes, dx, dy, w, h, s, image, sx, sy, c);
+    let d = images::draw(v, bytes, dx, dy, w, h, s, image, sx, sy, c);
     *count = d.count();
     d.status()
 }

@@ -21,7 +21,7 @@ use Rattle.canvas.specs.Plot.{Point, at, inks, onCanvas, hits}
 use Rattle.pixels.specs.Hits.{Hit}
 use Rattle.canvas.specs.Boxes.{side, fill, below, border, outline}
 use Rattle.pixels.specs.Rows.{each, run, flat}
-use Rattle.canvas.specs.Strokes.{edges}
+use Rattle.canvas.specs.Boxes.{edges}
 use Rattle.canvas.specs.Walk.{lowered, Holds, Work, work, drawn, Keeps, Ready, Did}
 use Rattle.canvas.proofs.span.Spans.{both-no, run-is, select-none}
 use Rattle.canvas.proofs.span.Differences.{sub-pos, sub-add}

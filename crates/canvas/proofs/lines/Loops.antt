@@ -23,7 +23,7 @@ use Rattle.canvas.specs.declared.lines.Pen.{Pen}
 use Rattle.canvas.specs.declared.lines.Way.{Way}
 use Rattle.canvas.specs.Plot.{Point, at, inks}
 use Rattle.canvas.specs.Lines.{bresenham, between, line}
-use Rattle.canvas.specs.Walk.{lowered, Cut, Work, Did, dabbed, dabs, Window}
+use Rattle.canvas.specs.Walk.{lowered, Work, Did, dabbed, dabs, Window}
 use Rattle.canvas.specs.Trail.{apart, wayOf, penOf, next, ahead, trail, Goes, Steps, Sets}
 use Rattle.canvas.proofs.plot.Draws.{did-none}
 use Rattle.canvas.proofs.plot.Dabs.{Dabbing, dabbing-start, dabbing-step, dabbing-end, dabs-did}
@@ -68,10 +68,6 @@ module _ {v : Canvas} {xs ys : Span} {f : ℕ → ℕ} {w : Way} where
         dabbing-end (dabbing-step d e)
 
 -- ---- the plots of a segment, and of a line
-
-pub window-of : (v : Canvas) (c : Clip) (xs ys : Span) → SFits w32 (c .x) → SFits w32 (c .y) → Cut 0 (v .width) (toZ w32 (ofZ w32 (c .x))) (c .width) (v .width) (xs .from) (xs .to)
-    → Cut 0 (v .height) (toZ w32 (ofZ w32 (c .y))) (c .height) (v .height) (ys .from) (ys .to) → Window v c xs ys
-window-of v c xs ys fx fy h k = record { columns = rw (toZ-ofZ w32 (c .x) fx) at h; rows = rw (toZ-ofZ w32 (c .y) fy) at k }
 
 module _ (s : Segment) (w : Way) (p : Pen) (e : w ≡ wayOf s) (h : p ≡ penOf s) (k : Sets s) where
   pub segment-goes : Goes w p

@@ -10,6 +10,9 @@ use lib.Dec.{ltb, leb}
 use lib.IntN.{ℤ, pos, negsuc, natAbs}
 use lib.ListN.{length}
 use lib.Signed.{leZ, ltZ}
+use mir.Syntax.{w32}
+use mir.Val.{SFits, toZ, ofZ}
+use mir.ValLaws.{toZ-ofZ}
 use Rattle.pixels.specs.declared.Canvas.{Canvas}
 use Rattle.canvas.specs.declared.Clip.{Clip}
 use Rattle.canvas.specs.declared.Tally.{Tally}
@@ -17,9 +20,9 @@ use Rattle.pixels.specs.declared.rows.Span.{Span}
 use Rattle.canvas.specs.Clip.{both, within, inClip}
 use Rattle.canvas.specs.Plot.{Point, at, Plot, plot, inks, landed, judge, onCanvas, fate}
 use Rattle.pixels.specs.Hits.{hit, touch}
-use Rattle.canvas.specs.Walk.{lowered, Holds, Cut, plus, Work, work, act, drawn, Did, covers, dabbed, dabs, Window, Fields}
+use Rattle.canvas.specs.Walk.{lowered, cutOf, Holds, Cut, plus, Work, work, act, drawn, Did, covers, dabbed, dabs, Window, Fields}
 use Rattle.canvas.proofs.span.Lifts.{lowered-neg, lowered-pos}
-use Rattle.canvas.proofs.span.Spans.{both-no, same-leb}
+use Rattle.canvas.proofs.span.Spans.{both-no, same-leb, cut-of}
 use Rattle.canvas.proofs.plot.Fates.{side-yes, side-past, side-minus, both-right}
 use Rattle.pixels.proofs.Hits.{touch-length}
 
@@ -65,6 +68,14 @@ module _ {v : Canvas} {c : Clip} {xs ys : Span} (k : Window v c xs ys) (f : ℕ 
 
 pub window-fields : {v : Canvas} {c : Clip} {xs ys : Span} → Window v c xs ys → Fields v xs ys
 window-fields k = record { ordered-x = k .columns .ordered; ordered-y = k .rows .ordered; held-x = k .columns .held; held-y = k .rows .held }
+
+-- what `window` answers of a clip's sides
+pub window-of : (v : Canvas) (c : Clip) (xs ys : Span) → SFits w32 (c .x) → SFits w32 (c .y) → xs ≡ cutOf 0 (v .width) (toZ w32 (ofZ w32 (c .x))) (c .width) (v .width)
+    → ys ≡ cutOf 0 (v .height) (toZ w32 (ofZ w32 (c .y))) (c .height) (v .height) → Window v c xs ys
+window-of v c xs ys fx fy h k = record {
+  columns = cut-of 0 (v .width) (c .x) (c .width) (v .width) xs fx (rw (toZ-ofZ w32 (c .x) fx) at h);
+  rows = cut-of 0 (v .height) (c .y) (c .height) (v .height) ys fy (rw (toZ-ofZ w32 (c .y) fy) at k);
+}
 
 -- ---- what the two tests of `dab` say
 

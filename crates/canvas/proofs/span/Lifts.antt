@@ -23,6 +23,14 @@ unfolding lifted
 lifted-lt (pos n) h = omega arith
 lifted-lt (negsuc n) h = omega arith
 
+pub fits-sum : (z : ℤ) → SFits w32 z → SFits w64 (z +ℤ pos 2147483648)
+fits-sum z h = rw (shift z h) (record { sfits = omega (arith, lifted-lt z h) })
+
+-- what `raised` answers
+module _ (z r : ℤ) (h : SFits w32 z) (e : r ≡ toZ w32 (ofZ w32 z) +ℤ pos 2147483648) where
+  pub raised-is : toZ w64 (ofZ w64 r) ≡ pos (lifted z)
+  raised-is = let k : r ≡ z +ℤ pos 2147483648 = rw (toZ-ofZ w32 z h) at e in rw (k, toZ-ofZ w64 (z +ℤ pos 2147483648) (fits-sum z h)) (shift z h)
+
 pub lower-lift : (x : ℤ) → SFits w32 x → lowered (lifted x) ≡ x
 unfolding lowered lifted
 lower-lift (pos m) s = rw (le-ltb (2147483648 + m) 2147483648 (omega arith)) (ap pos (omega arith))

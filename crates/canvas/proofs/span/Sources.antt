@@ -1,5 +1,5 @@
 -- The columns whose source is on a source's side, from lifted starts.
-use mathlib.Core.Path.{_≡_, sym, ap, _∙_}
+use mathlib.Core.Path.{_≡_, refl, sym, ap, _∙_}
 use mathlib.Core.Bool.{false}
 use Prim.Native.Nat.{ℕ, suc, _+_, _-_, _≤_, _<_, min, max}
 use native.Mathlib.Omega.{arith}
@@ -8,10 +8,11 @@ use lib.IntN.{ℤ, pos, negsuc, subℕ, natAbs, _+ℤ_, _-ℤ_}
 use mir.Syntax.{w32}
 use mir.Val.{SFits, toZ, ofZ}
 use mir.ValLaws.{toZ-ofZ}
+use Rattle.pixels.specs.declared.rows.Span.{Span}
 use Rattle.canvas.specs.Clip.{within}
 use Rattle.canvas.specs.Boxes.{sourceOf}
-use Rattle.canvas.specs.Walk.{lowered, Holds, Cut, Sourced, Shown}
-use Rattle.canvas.proofs.span.Spans.{holds-both, span-holds}
+use Rattle.canvas.specs.Walk.{lowered, cutOf, Holds, Cut, Sourced, Shown}
+use Rattle.canvas.proofs.span.Spans.{holds-both, span-holds, told-cut}
 use Rattle.canvas.proofs.span.Differences.{sub-pos, sub-neg, sub-add, sub-sub}
 use Rattle.canvas.proofs.plot.Fates.{side-yes, side-past, side-minus}
 
@@ -53,21 +54,29 @@ begin-of p s from h = omega arith
 end-of : (p s m from to : ℕ) → p - s ≤ from → to ≤ p + m - s → from < to → from + s - p + (to - from) ≤ m
 end-of p s m from to h k l = omega arith
 
--- what `shown_in` answers
-pub shown-is : (p s len m : ℕ) (c : ℤ) (k n af at bf bt lo end from to : ℕ) → SFits w32 c → af ≡ p - 2147483648 → at ≡ p + len - 2147483648 → bf ≡ p - s → bt ≡ p + m - s
-    → lo ≡ max af bf → end ≡ min at bt → Cut lo end (toZ w32 (ofZ w32 c)) k n from to → Shown p s len m c k n from to
-shown-is p s len m c k n af at bf bt lo end from to f e1 e2 e3 e4 e5 e6 cut = record {
+-- what `shown_in` answers, as it works it out
+pub shown-from : (p s len m : ℕ) (c : ℤ) (k n af at bf bt lo end : ℕ) (r : Span) → SFits w32 c → af ≡ p - 2147483648 → at ≡ p + len - 2147483648 → bf ≡ p - s → bt ≡ p + m - s
+    → lo ≡ max af bf → end ≡ min at bt → r ≡ cutOf lo end (toZ w32 (ofZ w32 c)) k n → r ≡ cutOf (max (p - 2147483648) (p - s)) (min (p + len - 2147483648) (p + m - s)) c k n
+shown-from p s len m c k n af at bf bt lo end r f e1 e2 e3 e4 e5 e6 e = rw (toZ-ofZ w32 c f, e5, e6, e1, e2, e3, e4) at e
+
+-- and what that is
+pub shown-is : (p s len m : ℕ) (c : ℤ) (k n : ℕ) (r : Span) → SFits w32 c → r ≡ cutOf (max (p - 2147483648) (p - s)) (min (p + len - 2147483648) (p + m - s)) (toZ w32 (ofZ w32 c)) k n
+    → Shown p s len m (toZ w32 (ofZ w32 c)) k n (r .from) (r .to)
+shown-is p s len m c k n r f e = record {
   ordered = cut .ordered;
   held = cut .held;
-  same = rw (toZ-ofZ w32 c f) at (cut .same _ (rw (← e5, ← e6) at (holds-both (span-holds p len af at e1 e2) (source-holds p s m bf bt e3 e4))));
+  same = cut .same _ (holds-both (span-holds p len _ _ refl refl) (source-holds p s m _ _ refl refl));
   sourced = record {
-    begins = λ l. begin-of p s from (starts l);
-    ends = λ l. end-of p s m from to (starts l) (rw e4 at (high-of at bt end to e6 (cut .ends l))) l;
+    begins = λ l. begin-of p s (r .from) (starts l);
+    ends = λ l. end-of p s m (r .from) (r .to) (starts l) (high-of (p + len - 2147483648) (p + m - s) _ (r .to) refl (cut .ends l)) l;
   };
 }
   where
-    starts : from < to → p - s ≤ from
-    starts l = rw e3 at (low-of af bf lo from e5 (cut .begins l))
+    cut : Cut (max (p - 2147483648) (p - s)) (min (p + len - 2147483648) (p + m - s)) (toZ w32 (ofZ w32 c)) k n (r .from) (r .to)
+    cut = told-cut c f e
+
+    starts : r .from < r .to → p - s ≤ r .from
+    starts l = low-of (p - 2147483648) (p - s) _ (r .from) refl (cut .begins l)
 
 -- the source of a column that is shown
 pub source-at : (p s m from to i : ℕ) → Sourced p s m from to → from ≤ i → i < from + (to - from) → natAbs (sourceOf (lowered p) (lowered s) i) ≡ from + s - p + (i - from)

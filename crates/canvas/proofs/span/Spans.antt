@@ -12,13 +12,14 @@ use lib.IntN.{ℤ, pos, subℕ, _+ℤ_}
 use lib.Signed.{leZ, ltZ}
 use mir.Syntax.{w32}
 use mir.Val.{SFits, toZ, ofZ}
-use mir.ValLaws.{toZ-ofZ}
+use mir.ValLaws.{toZ-ofZ, toZ-fits, ofZ-fits}
 use Rattle.canvas.specs.declared.Clip.{Clip}
+use Rattle.pixels.specs.declared.rows.Span.{Span}
 use Rattle.canvas.specs.Clip.{both, within, inClip}
 use Rattle.canvas.specs.Boxes.{select}
-use Rattle.canvas.specs.Walk.{lifted, lowered, Holds, Cut}
+use Rattle.canvas.specs.Walk.{lifted, lowered, Holds, Cut, span, cutOf}
 use Rattle.pixels.specs.Rows.{run}
-use Rattle.canvas.proofs.span.Lifts.{lift-is, lower-lift, lowers, lowered-neg, lowered-pos}
+use Rattle.canvas.proofs.span.Lifts.{lift-is, lower-lift, lowered-neg, lowered-pos}
 
 pub both-no : (t : Bool) → both t false ≡ false
 both-no true = refl
@@ -166,10 +167,10 @@ span-holds u len from end ef ee = record { before = before; inside = inside; pas
     past : (k : ℕ) → end ≤ k → within (lowered u) len (pos k) ≡ false
     past k h = within-lowered u len k ∙ rw (le-ltb (2147483648 + k) (u + len) (omega arith)) (both-no (leb u (2147483648 + k)))
 
--- what `cut` answers
-module _ (lo end : ℕ) (c : ℤ) (m n u : ℕ) (s : SFits w32 c) (eu : u ≡ lifted (toZ w32 (ofZ w32 c))) (cf ct : ℕ) (ef : cf ≡ u - 2147483648) (et : ct ≡ u + m - 2147483648) where
+-- what is left of a span
+module _ (lo end : ℕ) (c : ℤ) (m n : ℕ) (s : SFits w32 c) (cf ct : ℕ) (ef : cf ≡ lifted c - 2147483648) (et : ct ≡ lifted c + m - 2147483648) where
   clip-holds : Holds (λ k. within c m (pos k)) cf ct
-  clip-holds = rw (lowers c u s eu) at (span-holds u m cf ct ef et)
+  clip-holds = rw (lower-lift c s) at (span-holds (lifted c) m cf ct ef et)
 
   module _ (from to : ℕ) (gf : from ≡ max lo cf) (gt : to ≡ min (min end ct) n) where
     same-run : (t : ℕ → Bool) → Holds t lo end → run from (to - from) ≡ select (λ i. both (t i) (within c m (pos i))) 0 n
@@ -187,8 +188,8 @@ module _ (lo end : ℕ) (c : ℤ) (m n u : ℕ) (s : SFits w32 c) (eu : u ≡ li
         go g (no a) (yes d) = g .inside i (omega arith) (omega arith) ∙ rw (le-leb from i (omega arith), lt-ltb i to d) refl
         go g (no a) (no d) = g .past i (omega arith) ∙ rw (le-ltb i to (omega arith)) (sym (both-no (leb from i)))
 
-    pub cut-is : from ≤ to → Cut lo end c m n from to
-    cut-is l = record {
+    cut-some : from ≤ to → Cut lo end c m n from to
+    cut-some l = record {
       ordered = l;
       held = rw gt (min-le-right (min end ct) n);
       begins = λ h. omega arith;
@@ -197,7 +198,7 @@ module _ (lo end : ℕ) (c : ℤ) (m n u : ℕ) (s : SFits w32 c) (eu : u ≡ li
       point = same-point;
     }
 
-    pub cut-none : to < from → Cut lo end c m n 0 0
+    cut-none : to < from → Cut lo end c m n 0 0
     cut-none l =
         let z : to - from ≡ 0 = omega arith in
         record { ordered = omega arith; held = omega arith; begins = λ h. absurd (omega arith); ends = λ h. absurd (omega arith); same = λ t h. run-zero 0 ∙ sym (run-zero from) ∙ ap (run from) (sym z) ∙ same-run t h; point = λ t h i k. same-point t h i k ∙ nowhere i }
@@ -208,3 +209,41 @@ module _ (lo end : ℕ) (c : ℤ) (m n u : ℕ) (s : SFits w32 c) (eu : u ≡ li
             neither : Dec (i < to) → both (leb from i) (ltb i to) ≡ false
             neither (yes h) = rw (lt-leb from i (omega arith)) refl
             neither (no h) = rw (le-ltb i to (omega arith)) (both-no (leb from i))
+
+-- what `cut` answers, as it works it out
+module _ (lo end : ℕ) (c : ℤ) (m n u cf ct from to : ℕ) (s : SFits w32 c) (eu : u ≡ lifted (toZ w32 (ofZ w32 c))) (ef : cf ≡ u - 2147483648) (et : ct ≡ u + m - 2147483648)
+    (gf : from ≡ max lo cf) (gt : to ≡ min (min end ct) n) where
+  is-cut : cond (ltb to from) (span 0 0) (span from to) ≡ cutOf lo end c m n
+  unfolding cutOf
+  is-cut = rw (gt, gf, et, ef, lift-is c u s eu) refl
+
+  pub is-none : to < from → span 0 0 ≡ cutOf lo end c m n
+  is-none l = rw (lt-ltb to from l) at is-cut
+
+  pub is-some : from ≤ to → span from to ≡ cutOf lo end c m n
+  is-some l = rw (le-ltb to from l) at is-cut
+
+-- and what that is
+pub cut-of : (lo end : ℕ) (c : ℤ) (m n : ℕ) (r : Span) → SFits w32 c → r ≡ cutOf lo end c m n → Cut lo end c m n (r .from) (r .to)
+unfolding cutOf
+cut-of lo end c m n r s e = go (decLt to from)
+  where
+    cf : ℕ
+    cf = lifted c - 2147483648
+
+    ct : ℕ
+    ct = lifted c + m - 2147483648
+
+    from : ℕ
+    from = max lo cf
+
+    to : ℕ
+    to = min (min end ct) n
+
+    go : Dec (to < from) → Cut lo end c m n (r .from) (r .to)
+    go (yes l) = rw (e, lt-ltb to from l) (cut-none lo end c m n s cf ct refl refl from to refl refl l)
+    go (no l) = rw (e, le-ltb to from (omega arith)) (cut-some lo end c m n s cf ct refl refl from to refl refl (omega arith))
+
+-- a signed argument reaches a callee as `toZ w (ofZ w x)`
+pub told-cut : (c : ℤ) {lo end m n : ℕ} {r : Span} → SFits w32 c → r ≡ cutOf lo end (toZ w32 (ofZ w32 c)) m n → Cut lo end (toZ w32 (ofZ w32 c)) m n (r .from) (r .to)
+told-cut c {lo} {end} {m} {n} {r} s e = cut-of lo end (toZ w32 (ofZ w32 c)) m n r (toZ-fits w32 (ofZ w32 c) (ofZ-fits w32 c s)) e

@@ -1,5 +1,5 @@
 -- The call of the canvas, its answer read in numbers.
-use Rattle.canvas.specs.Areas.{copyArea}
+use Rattle.images.specs.Areas.{copyArea}
 use Rattle.tuyrashka.proofs.Answers.{answers}
 use borrow.Author.Needs.{needs}
 use Rattle.tuyrashka.proofs.tuyrashka_copy_area.Statement.{statement}

@@ -1,7 +1,7 @@
 -- The two rows, then the two columns.
 use native.Mathlib.Omega.{arith}
 use Rattle.words.specs.Ink.{inked}
-use Rattle.canvas.proofs.strokes.Chains.{rows-ready, columns-ready, edges-did}
+use Rattle.canvas.proofs.boxes.Chains.{rows-ready, columns-ready, edges-did}
 use borrow.Author.Needs.{needs}
 use Rattle.canvas.proofs.boxes.edges_in.Statement.{statement}
 use Rattle.canvas.proofs.boxes.edges_in.Tie as tie

@@ -4,7 +4,7 @@ use mathlib.Core.Path.{sym, _∙_}
 use Rattle.words.specs.Ink.{inked}
 use Rattle.canvas.specs.Walk.{lowered}
 use Rattle.canvas.proofs.boxes.Outline.{thin-box, larger-box, two-sides, border-ready, border-did}
-use Rattle.canvas.proofs.ovals.Sieves.{did-same, ready-same}
+use Rattle.canvas.proofs.boxes.Chains.{did-same, ready-same}
 use borrow.Author.Needs.{needs}
 use Rattle.canvas.proofs.boxes.outline_in.Statement.{statement}
 use Rattle.canvas.proofs.boxes.outline_in.Tie as tie

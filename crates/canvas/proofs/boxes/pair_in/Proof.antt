@@ -2,7 +2,7 @@
 use Rattle.words.specs.Ink.{inked}
 use Rattle.canvas.specs.Boxes.{fill}
 use Rattle.canvas.specs.Walk.{lowered}
-use Rattle.canvas.proofs.strokes.Chains.{then, ready-first, ready-then}
+use Rattle.canvas.proofs.boxes.Chains.{then, ready-first, ready-then}
 use borrow.Author.Needs.{needs}
 use Rattle.canvas.proofs.boxes.pair_in.Statement.{statement}
 use Rattle.canvas.proofs.boxes.pair_in.Tie as tie

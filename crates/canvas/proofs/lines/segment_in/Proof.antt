@@ -1,8 +1,8 @@
 -- The walk by the bytes of a word, in the window of canvas and clip.
 use mathlib.Core.Path.{sym}
 use Rattle.pixels.proofs.bytes.Places.{one-byte, two-bytes, four-bytes}
-use Rattle.canvas.proofs.plot.Dabs.{window-fields}
-use Rattle.canvas.proofs.lines.Loops.{window-of, segment-goes, segment-did}
+use Rattle.canvas.proofs.plot.Dabs.{window-fields, window-of}
+use Rattle.canvas.proofs.lines.Loops.{segment-goes, segment-did}
 use Rattle.words.specs.Ink.{inked}
 use borrow.Author.Needs.{needs}
 use Rattle.canvas.proofs.lines.segment_in.Statement.{statement}

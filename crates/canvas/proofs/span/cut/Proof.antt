@@ -4,7 +4,7 @@ use mir.Syntax.{w32}
 use mir.Val.{toZ, ofZ}
 use mir.ValLaws.{toZ-fits, ofZ-fits}
 use Rattle.canvas.proofs.span.Lifts.{lifted-lt}
-use Rattle.canvas.proofs.span.Spans.{cut-is, cut-none}
+use Rattle.canvas.proofs.span.Spans.{is-none, is-some}
 use borrow.Author.Needs.{needs}
 use Rattle.canvas.proofs.span.cut.Statement.{statement}
 use Rattle.canvas.proofs.span.cut.Tie as tie
@@ -25,10 +25,10 @@ least-requires-2 : tie.Need-least-requires-2
 least-requires-2 c κs = search needs
 
 returns : tie.Need-returns
-returns c = cut-none _ _ (c .before .before .before .before .before .before .args .c) _ _ _ (c .before .before .before .before .before .before .fits .c) (c .before .before .before .before .before .lift .ensures) _ _ (c .before .before .before .before .reach .ensures .0) (c .before .before .before .before .reach .ensures .1) _ _ (c .before .before .before .most .ensures) (rw (c .before .before .least .ensures) at (c .before .least2 .ensures)) (c .if1 .taken)
+returns c = is-none _ _ (c .before .before .before .before .before .before .args .c) _ _ _ _ _ _ _ (c .before .before .before .before .before .before .fits .c) (c .before .before .before .before .before .lift .ensures) (c .before .before .before .before .reach .ensures .0) (c .before .before .before .before .reach .ensures .1) (c .before .before .before .most .ensures) (rw (c .before .before .least .ensures) at (c .before .least2 .ensures)) (c .if1 .taken)
 
 returns-2 : tie.Need-returns-2
-returns-2 c = cut-is _ _ (c .before .before .before .before .before .before .args .c) _ _ _ (c .before .before .before .before .before .before .fits .c) (c .before .before .before .before .before .lift .ensures) _ _ (c .before .before .before .before .reach .ensures .0) (c .before .before .before .before .reach .ensures .1) _ _ (c .before .before .before .most .ensures) (rw (c .before .before .least .ensures) at (c .before .least2 .ensures)) (c .if1 .left)
+returns-2 c = is-some _ _ (c .before .before .before .before .before .before .args .c) _ _ _ _ _ _ _ (c .before .before .before .before .before .before .fits .c) (c .before .before .before .before .before .lift .ensures) (c .before .before .before .before .reach .ensures .0) (c .before .before .before .before .reach .ensures .1) (c .before .before .before .most .ensures) (rw (c .before .before .least .ensures) at (c .before .least2 .ensures)) (c .if1 .left)
 
 pub cut-spec : {M : Type 1} → statement M
 cut-spec =

@@ -1,5 +1,5 @@
 -- The two spans meet, and the clip cuts what they share.
-use Rattle.canvas.proofs.span.Sources.{shown-is}
+use Rattle.canvas.proofs.span.Sources.{shown-from}
 use borrow.Author.Needs.{needs}
 use Rattle.canvas.proofs.span.shown_in.Statement.{statement}
 use Rattle.canvas.proofs.span.shown_in.Tie as tie
@@ -17,7 +17,7 @@ cut-requires : tie.Need-cut-requires
 cut-requires c κs = search needs
 
 returns : tie.Need-returns
-returns c = shown-is (c .before .before .before .before .args .p) (c .before .before .before .before .args .s) (c .before .before .before .before .args .len) (c .before .before .before .before .args .m) (c .before .before .before .before .args .c) (c .before .before .before .before .args .k) (c .before .before .before .before .args .n) _ _ _ _ _ _ _ _ (c .before .before .before .before .fits .c) (c .before .before .before .reach .ensures .0) (c .before .before .before .reach .ensures .1) (c .before .before .reach2 .ensures .0) (c .before .before .reach2 .ensures .1) (c .before .meet .ensures .0) (c .before .meet .ensures .1) (c .cut .ensures)
+returns c = shown-from _ _ _ _ (c .before .before .before .before .args .c) _ _ _ _ _ _ _ _ _ (c .before .before .before .before .fits .c) (c .before .before .before .reach .ensures .0) (c .before .before .before .reach .ensures .1) (c .before .before .reach2 .ensures .0) (c .before .before .reach2 .ensures .1) (c .before .meet .ensures .0) (c .before .meet .ensures .1) (c .cut .ensures)
 
 pub shown-in-spec : {M : Type 1} → statement M
 shown-in-spec =

@@ -1,0 +1,6 @@
+// The calls that draw images and copy areas.
+mod copy;
+mod pictures;
+
+pub use copy::copy_area;
+pub use pictures::draw;

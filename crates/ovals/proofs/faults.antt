@@ -1,0 +1,2 @@
+-- The bounds of angles and boxes.
+pub mod Bounds

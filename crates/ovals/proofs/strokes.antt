@@ -1,0 +1,4 @@
+-- The laws of strokes.
+pub mod Stroking
+pub mod Quarters
+pub mod Outlines

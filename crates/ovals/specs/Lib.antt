@@ -1,0 +1,5 @@
+pub mod Faults
+pub mod Strokes
+pub mod Curves
+pub mod Call
+pub mod Sift

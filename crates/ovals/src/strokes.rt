@@ -1,0 +1,194 @@
+// Strokes: arcs, and the quarters of a round rectangle's corners.
+ghost use mathlib.Core.Path.{_≡_};
+ghost use Prim.Native.Nat.{suc, _≤_, _<_};
+ghost use Rattle.number.specs.Degrees.{radiansOf};
+ghost use Rattle.words.specs.Ink.{inked};
+ghost use Rattle.pixels.specs.Bytes.{size, Sized};
+ghost use Rattle.canvas.specs.Plot.{inks};
+ghost use Rattle.ovals.specs.Strokes.{pointOf, strokeFrom, stroke, arc};
+ghost use Rattle.ovals.specs.Call.{drawArc};
+ghost use Rattle.canvas.specs.Call.{leaves, call};
+ghost use Rattle.canvas.specs.Walk.{plus, work, dabbed, dabs, Fits, Did, Fields};
+ghost use Rattle.ovals.specs.Sift.{half};
+use crate::faults::arc_fault;
+use canvas::Clip;
+use canvas::Drawn;
+use canvas::Tally;
+use canvas::boxes::is_empty;
+use canvas::faults::Start;
+use canvas::faults::begin;
+use canvas::plot::dab;
+use canvas::span::lift;
+use canvas::span::window;
+use curves::corners::Corners;
+use curves::corners::corner;
+use curves::ovals::Oval;
+use curves::strokes::Spot;
+use pixels::Canvas;
+use pixels::rows::Span;
+use words::Color;
+use words::Ink;
+
+// The plot of one point.
+fn dab_spot(
+    canvas: Canvas,
+    b: &mut [u8],
+    xs: Span,
+    ys: Span,
+    n: usize,
+    s: Spot,
+    ink: Ink,
+    t: Tally,
+) -> Tally
+    requires { ⌜ (Sized canvas (now b)) × ((Fields canvas xs ys) × ((n ≡ size canvas) × (Fits (plus t 1)))) ⌝ }
+    ensures { λ r. ⌜ work (now (b .exit)) r ≡ dabbed canvas xs ys (inked ink) (pointOf s) (work (now (b .entry)) t) ⌝ }
+{
+    let p = lift(s.x);
+    let q = lift(s.y);
+    dab(canvas, b, xs, ys, n, p, q, ink, t)
+}
+
+// The plots of a stroke of so many steps, the first and the last included. The next angle is reduced before a point is
+// worked out, so that the machine does both at once.
+fn stroke_steps(
+    canvas: Canvas,
+    b: &mut [u8],
+    xs: Span,
+    ys: Span,
+    n: usize,
+    o: Oval,
+    start: f32,
+    sweep: f32,
+    steps: u32,
+    ink: Ink,
+    t0: Tally,
+) -> Tally
+    requires { ⌜ (Sized canvas (now b)) × ((Fields canvas xs ys) × ((n ≡ size canvas) × ((steps ≤ 1048544) × (t0 .landed < 9223372036854775808)))) ⌝ }
+    ensures { λ r. ⌜ work (now (b .exit)) r ≡ dabs canvas xs ys (inked ink) (strokeFrom o start sweep steps 0 (suc steps)) (work (now (b .entry)) t0) ⌝ }
+{
+    let mut t = t0;
+    let mut i = 0u32;
+    let mut a = curves::strokes::stroke_angle(start, sweep, 0, steps);
+    while i <= steps {
+        let next = curves::strokes::stroke_angle(start, sweep, i + 1, steps);
+        let s = curves::strokes::spot_at(o, a);
+        t = dab_spot(canvas, b, xs, ys, n, s, ink, t);
+        a = next;
+        i = i + 1;
+    }
+    t
+}
+
+// The plots of a stroke; start and sweep are in radians.
+pub(crate) fn stroke_in(
+    canvas: Canvas,
+    b: &mut [u8],
+    o: Oval,
+    start: f32,
+    sweep: f32,
+    ink: Ink,
+    clip: Clip,
+    t: Tally,
+) -> Tally
+    requires { ⌜ (Sized canvas (now b)) × (t .landed < 9223372036854775808) ⌝ }
+    ensures { λ r. ⌜ Did canvas clip (inks (inked ink) (stroke canvas o start sweep)) (work (now (b .entry)) t) (work (now (b .exit)) r) ⌝ }
+{
+    let xs = window(clip.x, clip.width, canvas.width);
+    let ys = window(clip.y, clip.height, canvas.height);
+    let steps = curves::strokes::steps(o, sweep, canvas.width, canvas.height) as u32;
+    let f = canvas.format;
+    match f {
+        0 => stroke_steps(canvas, b, xs, ys, 1, o, start, sweep, steps, ink, t),
+        1 => stroke_steps(canvas, b, xs, ys, 2, o, start, sweep, steps, ink, t),
+        _ => stroke_steps(canvas, b, xs, ys, 4, o, start, sweep, steps, ink, t),
+    }
+}
+
+// The plots of an arc, whose angles are in degrees.
+fn arc_in(
+    canvas: Canvas,
+    b: &mut [u8],
+    x: i32,
+    y: i32,
+    w: u32,
+    h: u32,
+    start: i32,
+    sweep: i32,
+    ink: Ink,
+    clip: Clip,
+    t: Tally,
+) -> Tally
+    requires { ⌜ (Sized canvas (now b)) × (t .landed < 9223372036854775808) ⌝ }
+    ensures { λ r. ⌜ Did canvas clip (inks (inked ink) (arc canvas x y w h start sweep)) (work (now (b .entry)) t) (work (now (b .exit)) r) ⌝ }
+{
+    if is_empty(w, h) {
+        return t;
+    }
+    let o = curves::ovals::oval_in(x, y, w, h);
+    let from = number::radians(std::num::nearest_i32_to_f32(start));
+    let turn = number::radians(std::num::nearest_i32_to_f32(sweep));
+    stroke_in(canvas, b, o, from, turn, ink, clip, t)
+}
+
+// An arc.
+pub fn draw_arc(
+    canvas: Canvas,
+    bytes: &mut [u8],
+    x: i32,
+    y: i32,
+    w: u32,
+    h: u32,
+    start: i32,
+    arc: i32,
+    color: Color,
+    clip: Clip,
+) -> Drawn
+    ensures { λ r. ⌜ leaves r (now (bytes .exit)) ≡ call canvas (drawArc x y w h start arc color clip) (now (bytes .entry)) ⌝ }
+{
+    match begin(
+        canvas,
+        bytes.len(),
+        arc_fault(x, y, w, h, start, arc),
+        color,
+    ) {
+        Start::Refused(r) => Drawn::Refused(r),
+        Start::With(ink) => Drawn::Done(arc_in(
+            canvas,
+            bytes,
+            x,
+            y,
+            w,
+            h,
+            start,
+            arc,
+            ink,
+            clip,
+            Tally { landed: 0 },
+        )),
+    }
+}
+
+// The plots of the two upper quarters at the corners of a round rectangle, or of the two lower ones, each from its angle in
+// degrees.
+pub(crate) fn half_in(
+    canvas: Canvas,
+    b: &mut [u8],
+    c: Corners,
+    low: bool,
+    first: f32,
+    second: f32,
+    ink: Ink,
+    clip: Clip,
+    t: Tally,
+) -> Tally
+    requires { ⌜ (Sized canvas (now b)) × (t .landed < 4611686018427387904) ⌝ }
+    ensures { λ r. ⌜ Did canvas clip (inks (inked ink) (half canvas c low (radiansOf first) (radiansOf second))) (work (now (b .entry)) t) (work (now (b .exit)) r) ⌝ }
+{
+    let quarter = number::radians(90.0);
+    let from = number::radians(first);
+    let then = number::radians(second);
+    let o = corner(c, !low, low);
+    let u = corner(c, low, low);
+    let n = stroke_in(canvas, b, o, from, quarter, ink, clip, t);
+    stroke_in(canvas, b, u, then, quarter, ink, clip, n)
+}
