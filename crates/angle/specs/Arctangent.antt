@@ -17,13 +17,9 @@ unfoldable pub eighth : ℕ → ℕ → ℕ
 eighth small big =
     getD nodes (small * 512 / big) 0 + small * 512 % big * 3754936 / (big * 512 + small * 512 / big * small)
 
-abbrev pub pick : Bool → ℕ → ℕ → ℕ
-pick true a b = a
-pick false a b = b
-
 -- The answer's size, for u halves up and v to the right, or to the left: by eighths of a turn.
 unfoldable pub turn : Bool → ℕ → ℕ → ℕ
-turn left u v = pick (leb u v) (pick left (11796480 - eighth u v) (eighth u v)) (pick left (5898240 + eighth v u) (5898240 - eighth v u))
+turn left u v = cond (leb u v) (cond left (11796480 - eighth u v) (eighth u v)) (cond left (5898240 + eighth v u) (5898240 - eighth v u))
 
 -- How many halves x is in size: cut to a whole number, 32,766 at most, none for a NaN.
 unfoldable pub halvesOf : Float → ℕ

@@ -2,7 +2,7 @@
 -- in any order, they are taken away. Proved over the laws of words and of bytes; a shape is any points in one colour.
 use mathlib.Core.Path.{_≡_, refl, sym, ap, ap₂, _∙_}
 use mathlib.Core.Bool.{Bool, true, false, cond, _||_}
-use mathlib.Core.List.{List, [], _∷_, _++_, map, append-assoc, List·Permᴰ, List·Permᴰ·nil, List·Permᴰ·cons, List·Permᴰ·swap, List·Permᴰ·trans, Permᴰ·append-right, Permᴰ·append-left, List·Permᴰ·append-comm}
+use mathlib.Core.List.{List, [], _∷_, _++_, map, append-assoc, List·Permᴰ, List·Permᴰ·nil, List·Permᴰ·cons, List·Permᴰ·swap, List·Permᴰ·trans, Permᴰ·append-right, Permᴰ·append-left, List·Permᴰ·append-comm, flatMap}
 use Prim.Native.Nat.{ℕ}
 use lib.Dec.{eqb}
 use lib.ListN.{length}
@@ -23,7 +23,6 @@ use Rattle.canvas.specs.Faults.{orElse, verdict}
 use Rattle.canvas.specs.Plot.{Point, Dot, tint, plot, dip, landed, fate, hitOf, hits}
 use Rattle.pixels.specs.Hits.{Hit, paint}
 use Rattle.canvas.specs.Call.{Call, shape, draw, clipOf, faultOf, sourceColor, dots, brush, plots, ruled, drawing, call}
-use Rattle.pixels.specs.Rows.{each}
 use Rattle.canvas.specs.Boxes.{picture}
 use Rattle.canvas.specs.Calls.{after, unless, landing}
 use Rattle.pixels.proofs.bytes.Cells.{Bytes}
@@ -67,8 +66,8 @@ dots-append : {v : Canvas} {k : Call} {ds es : List Dot} → Dots v k ds → Dot
 dots-append no-more e = e
 dots-append (and s d) e = and s (dots-append d e)
 
-dots-each : {v : Canvas} {k : Call} (g : ℕ → List Dot) → ((x : ℕ) → Dots v k (g x)) → (xs : List ℕ) → Dots v k (each g xs)
-unfolding each
+dots-each : {v : Canvas} {k : Call} (g : ℕ → List Dot) → ((x : ℕ) → Dots v k (g x)) → (xs : List ℕ) → Dots v k (flatMap g xs)
+unfolding flatMap
 dots-each g h [] = no-more
 dots-each g h (x ∷ xs) = dots-append (h x) (dots-each g h xs)
 

@@ -1,14 +1,13 @@
 -- Boxes: the points that a fill and an outline plot.
-use mathlib.Core.Bool.{Bool, cond, _||_}
-use mathlib.Core.List.{List, [], _∷_, _++_}
+use mathlib.Core.Bool.{Bool, cond, _||_, _&&_}
+use mathlib.Core.List.{List, [], _∷_, _++_, flatMap}
 use Prim.Native.Nat.{ℕ, zero, suc, _*_, _-_}
 use lib.Dec.{eqb}
 use lib.IntN.{ℤ, pos, _+ℤ_, _-ℤ_}
 use lib.Signed.{ltZ}
 use Rattle.words.specs.declared.Color.{Color}
 use Rattle.pixels.specs.declared.Canvas.{Canvas}
-use Rattle.pixels.specs.Rows.{each}
-use Rattle.canvas.specs.Clip.{both, within}
+use Rattle.canvas.specs.Clip.{within}
 use Rattle.canvas.specs.Plot.{Point, at, Plot, plot, Dot, dot}
 
 -- Those of the n numbers from i on that pass a test.
@@ -22,15 +21,15 @@ side a len n = select (λ i. within a len (pos i)) 0 n
 
 -- A plot at each pixel of some columns and rows, row by row; its ink may hang on the pixel.
 unfoldable pub spots : (ℕ → ℕ → ℕ → ℕ) → List ℕ → List ℕ → List Plot
-spots f xs ys = each (λ j. each (λ i. plot (f i j) (pos i) (pos j) ∷ []) xs) ys
+spots f xs ys = flatMap (λ j. flatMap (λ i. plot (f i j) (pos i) (pos j) ∷ []) xs) ys
 
 -- A dot at each pixel of some columns and rows, row by row; its colour may hang on the pixel.
 unfoldable pub picture : (ℕ → ℕ → Color) → List ℕ → List ℕ → List Dot
-picture c xs ys = each (λ j. each (λ i. dot (c i j) (pos i) (pos j) ∷ []) xs) ys
+picture c xs ys = flatMap (λ j. flatMap (λ i. dot (c i j) (pos i) (pos j) ∷ []) xs) ys
 
 -- The overlap of a box and the canvas, row by row.
 unfoldable pub fill : Canvas → ℤ → ℤ → ℕ → ℕ → List Point
-fill v x y w h = each (λ j. each (λ i. at (pos i) (pos j) ∷ []) (side x w (v .width))) (side y h (v .height))
+fill v x y w h = flatMap (λ j. flatMap (λ i. at (pos i) (pos j) ∷ []) (side x w (v .width))) (side y h (v .height))
 
 -- The source's column (or row) of a canvas's column i, in a box that starts at d and is taken from s on.
 abbrev pub sourceOf : ℤ → ℤ → ℕ → ℤ
@@ -38,7 +37,7 @@ sourceOf d s i = s +ℤ (pos i -ℤ d)
 
 -- The columns of a canvas n wide in the span of len from d whose source columns are on a source m wide.
 abbrev pub shown : ℤ → ℤ → ℕ → ℕ → ℕ → List ℕ
-shown d s len m n = select (λ i. both (within d len (pos i)) (within (pos 0) m (sourceOf d s i))) 0 n
+shown d s len m n = select (λ i. within d len (pos i) && within (pos 0) m (sourceOf d s i)) 0 n
 
 -- A point, if its place a is below n.
 abbrev pub below : ℤ → ℕ → Point → List Point
@@ -50,8 +49,8 @@ unfoldable pub border : Canvas → ℤ → ℤ → ℕ → ℕ → List Point
 border v x y w h =
     let right = x +ℤ pos (w - 1) in
     let bottom = y +ℤ pos (h - 1) in
-    each (λ i. at (pos i) y ∷ below bottom (v .height) (at (pos i) bottom)) (side x w (v .width))
-    ++ each (λ j. at x (pos j) ∷ below right (v .width) (at right (pos j))) (side (y +ℤ pos 1) (h - 2) (v .height))
+    flatMap (λ i. at (pos i) y ∷ below bottom (v .height) (at (pos i) bottom)) (side x w (v .width))
+    ++ flatMap (λ j. at x (pos j) ∷ below right (v .width) (at right (pos j))) (side (y +ℤ pos 1) (h - 2) (v .height))
 
 -- "A rectangle outline with w or h 0 is nothing, else with w or h 1 a fill; otherwise each border point is plotted once."
 unfoldable pub outline : Canvas → ℤ → ℤ → ℕ → ℕ → List Point

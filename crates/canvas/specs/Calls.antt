@@ -1,12 +1,11 @@
 -- Calls made one after the other on one canvas.
-use mathlib.Core.Bool.{Bool, true, false, cond}
+use mathlib.Core.Bool.{Bool, false, cond, _&&_, _||_}
 use mathlib.Core.List.{List, [], _∷_}
 use Prim.Native.Nat.{ℕ}
 use lib.Dec.{eqb}
 use Rattle.pixels.specs.declared.Canvas.{Canvas}
 use Rattle.canvas.specs.declared.faults.Verdict.{Verdict}
 use Rattle.canvas.specs.declared.faults.Verdict.the-variants.{Sound, Faulty}
-use Rattle.canvas.specs.Clip.{both}
 use Rattle.canvas.specs.Plot.{Dot, dip, hits}
 use Rattle.pixels.specs.Hits.{Hit}
 use Rattle.canvas.specs.Call.{Call, clipOf, faultOf, dots, brush, call}
@@ -27,7 +26,7 @@ landing v k ds = unless (faultOf k) (hits v (clipOf k) (dip (brush v k) ds))
 -- Whether a hit is on the pixel at x and y.
 unfoldable pub struck : List Hit → ℕ → ℕ → Bool
 struck [] x y = false
-struck (h ∷ hs) x y = cond (both (eqb (h .x) x) (eqb (h .y) y)) true (struck hs x y)
+struck (h ∷ hs) x y = (eqb (h .x) x && eqb (h .y) y) || struck hs x y
 
 -- The dots whose alpha is not 0.
 unfoldable pub visible : List Dot → List Dot
@@ -35,6 +34,6 @@ visible [] = []
 visible (d ∷ ds) = cond (eqb (d .color .a) 0) (visible ds) (d ∷ visible ds)
 
 -- Whether a plot of a colour whose alpha is not 0 lands on it.
-unfoldable pub veiled : Canvas → List Call → ℕ → ℕ → Bool
-veiled v [] x y = false
-veiled v (k ∷ ks) x y = cond (struck (landing v k (visible (dots v k))) x y) true (veiled v ks x y)
+unfoldable pub madeSolid : Canvas → List Call → ℕ → ℕ → Bool
+madeSolid v [] x y = false
+madeSolid v (k ∷ ks) x y = struck (landing v k (visible (dots v k))) x y || madeSolid v ks x y

@@ -1,13 +1,13 @@
 -- Plots: where they land, and which hits they are then.
-use mathlib.Core.Bool.{Bool, true, false}
-use mathlib.Core.List.{List, [], _∷_}
+use mathlib.Core.Bool.{Bool, true, false, _&&_}
+use mathlib.Core.List.{List, [], _∷_, map}
 use Prim.Native.Nat.{ℕ}
 use lib.IntN.{ℤ, pos, natAbs}
 use Rattle.words.specs.declared.Color.{Color}
 use Rattle.pixels.specs.declared.Canvas.{Canvas}
 use Rattle.canvas.specs.declared.Clip.{Clip}
 use Rattle.pixels.specs.Hits.{Hit, hit}
-use Rattle.canvas.specs.Clip.{both, within, inClip}
+use Rattle.canvas.specs.Clip.{within, inClip}
 
 -- A shape is a list of points, on the canvas or off it.
 pub record Point : Type 0 where
@@ -28,8 +28,7 @@ plot f x y = record { x = x; y = y; ink = f }
 
 -- A plot with one ink at each of the points.
 unfoldable pub inks : (ℕ → ℕ) → List Point → List Plot
-inks f [] = []
-inks f (p ∷ ps) = plot f (p .x) (p .y) ∷ inks f ps
+inks f ps = map (λ p. plot f (p .x) (p .y)) ps
 
 -- A point, and the colour plotted there.
 pub record Dot : Type 0 where
@@ -41,16 +40,14 @@ abbrev pub dot : Color → ℤ → ℤ → Dot
 dot c x y = record { x = x; y = y; color = c }
 
 unfoldable pub tint : Color → List Point → List Dot
-tint c [] = []
-tint c (p ∷ ps) = dot c (p .x) (p .y) ∷ tint c ps
+tint c ps = map (λ p. dot c (p .x) (p .y)) ps
 
 -- The plots of dots, by what a colour makes of the word stored.
 unfoldable pub dip : (Color → ℕ → ℕ) → List Dot → List Plot
-dip g [] = []
-dip g (d ∷ ds) = plot (g (d .color)) (d .x) (d .y) ∷ dip g ds
+dip g ds = map (λ d. plot (g (d .color)) (d .x) (d .y)) ds
 
 unfoldable pub onCanvas : Canvas → ℤ → ℤ → Bool
-onCanvas v x y = both (within (pos 0) (v .width) x) (within (pos 0) (v .height) y)
+onCanvas v x y = within (pos 0) (v .width) x && within (pos 0) (v .height) y
 
 -- What becomes of a plot.
 pub data Fate : Type 0 where

@@ -1,6 +1,6 @@
 -- What the contracts of the functions that calls are made of speak of; no contract of a call cites this file.
 use mathlib.Core.Path.{_≡_}
-use mathlib.Core.Bool.{Bool, true, false, cond}
+use mathlib.Core.Bool.{Bool, true, false, cond, _&&_}
 use mathlib.Core.List.{List, [], _∷_}
 use Prim.Native.Nat.{ℕ, _+_, _-_, _<_, _≤_, min, max}
 use lib.Dec.{leb, ltb}
@@ -14,7 +14,7 @@ use Rattle.canvas.specs.declared.Clip.{Clip}
 use Rattle.canvas.specs.declared.Tally.{Tally}
 use Rattle.pixels.specs.declared.rows.Span.{Span}
 use Rattle.pixels.specs.Bytes.{form, Sized}
-use Rattle.canvas.specs.Clip.{both, within}
+use Rattle.canvas.specs.Clip.{within}
 use Rattle.canvas.specs.Boxes.{select, sourceOf}
 use Rattle.pixels.specs.Rows.{run}
 use Rattle.canvas.specs.Plot.{Point, Plot, plot, Fate, landed, outside, clipped, fate, hitOf}
@@ -50,8 +50,8 @@ pub record Cut (lo end : ℕ) (c : ℤ) (m n from to : ℕ) : Type 0 where
   pub held : to ≤ n
   pub begins : from < to → lo ≤ from
   pub ends : from < to → to ≤ end
-  pub same : (t : ℕ → Bool) → Holds t lo end → run from (to - from) ≡ select (λ i. both (t i) (within c m (pos i))) 0 n
-  pub point : (t : ℕ → Bool) → Holds t lo end → (i : ℕ) → i < n → both (t i) (within c m (pos i)) ≡ both (leb from i) (ltb i to)
+  pub same : (t : ℕ → Bool) → Holds t lo end → run from (to - from) ≡ select (λ i. t i && within c m (pos i)) 0 n
+  pub point : (t : ℕ → Bool) → Holds t lo end → (i : ℕ) → i < n → (t i && within c m (pos i)) ≡ (leb from i && ltb i to)
 
 -- The tally with one plot more.
 abbrev pub note : Fate → Tally → Tally
@@ -109,16 +109,16 @@ pub record Shown (p s len m : ℕ) (c : ℤ) (k n from to : ℕ) : Type 0 where
   pub ordered : from ≤ to
   pub held : to ≤ n
   pub same : run from (to - from)
-      ≡ select (λ i. both (both (within (lowered p) len (pos i)) (within (pos 0) m (sourceOf (lowered p) (lowered s) i))) (within c k (pos i))) 0 n
+      ≡ select (λ i. (within (lowered p) len (pos i) && within (pos 0) m (sourceOf (lowered p) (lowered s) i)) && within c k (pos i)) 0 n
   pub sourced : Sourced p s m from to
 
 -- Whether a column or row is one of a span.
 unfoldable pub covers : Span → ℤ → Bool
-covers s z = both (leZ (pos (s .from)) z) (ltZ z (pos (s .to)))
+covers s z = leZ (pos (s .from)) z && ltZ z (pos (s .to))
 
 -- A plot that can land on these columns and rows alone, and plots one after the other.
 unfoldable pub dabbed : Canvas → Span → Span → (ℕ → ℕ) → Point → Work → Work
-dabbed v xs ys f p w = cond (both (covers xs (p .x)) (covers ys (p .y))) (act v (plot f (p .x) (p .y)) landed w) w
+dabbed v xs ys f p w = cond (covers xs (p .x) && covers ys (p .y)) (act v (plot f (p .x) (p .y)) landed w) w
 
 unfoldable pub dabs : Canvas → Span → Span → (ℕ → ℕ) → List Point → Work → Work
 dabs v xs ys f [] w = w

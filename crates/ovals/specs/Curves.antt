@@ -1,6 +1,6 @@
 -- Pies and round rectangles: the points that a fill plots.
 use mathlib.Core.Bool.{Bool, cond, _||_}
-use mathlib.Core.List.{List, [], _∷_}
+use mathlib.Core.List.{List, [], _∷_, flatMap}
 use Prim.Native.Nat.{ℕ}
 use lib.Dec.{eqb}
 use lib.IntN.{ℤ, pos}
@@ -9,11 +9,10 @@ use Rattle.curves.specs.Corners.{inRound}
 use Rattle.pixels.specs.declared.Canvas.{Canvas}
 use Rattle.canvas.specs.Plot.{Point, at}
 use Rattle.canvas.specs.Boxes.{side, fill}
-use Rattle.pixels.specs.Rows.{each}
 
 -- Those of some columns and rows whose pixels pass a test, row by row.
 unfoldable pub sieve : (ℕ → ℕ → Bool) → List ℕ → List ℕ → List Point
-sieve t xs ys = each (λ j. each (λ i. cond (t i j) (at (pos i) (pos j) ∷ []) []) xs) ys
+sieve t xs ys = flatMap (λ j. flatMap (λ i. cond (t i j) (at (pos i) (pos j) ∷ []) []) xs) ys
 
 -- "With w or h 0 nothing is drawn." "A pie takes points of the box with .. not above 1 in f32, then the sweep test"
 unfoldable pub pie : Canvas → ℤ → ℤ → ℕ → ℕ → ℤ → ℤ → List Point

@@ -1,7 +1,7 @@
 -- What the contracts of the inner functions of pies, round fills and round outlines speak of; no public contract cites this file.
 use mathlib.Core.Path.{_≡_}
 use mathlib.Core.Bool.{Bool, true, cond, not}
-use mathlib.Core.List.{List, [], _++_}
+use mathlib.Core.List.{List, [], _++_, flatMap}
 use Prim.Native.Nat.{ℕ, _≤_, _<_}
 use lib.IntN.{ℤ, pos}
 use lib.Ieee.{Float}
@@ -16,7 +16,7 @@ use Rattle.canvas.specs.Clip.{within}
 use Rattle.canvas.specs.Plot.{Point}
 use Rattle.ovals.specs.Strokes.{stroke}
 use Rattle.pixels.specs.Hits.{Hit, paint}
-use Rattle.pixels.specs.Rows.{each, mark, flat}
+use Rattle.pixels.specs.Rows.{mark, flat}
 use Rattle.canvas.specs.Walk.{plus, Work, work}
 
 -- A hit on a pixel that passes a test, and those of a part of a row and of a box.
@@ -24,10 +24,10 @@ unfoldable pub sift : (ℕ → ℕ → Bool) → (ℕ → ℕ) → ℕ → ℕ �
 sift t f y x = cond (t x y) (mark (flat f) y x) []
 
 abbrev pub sifts : (ℕ → ℕ → Bool) → (ℕ → ℕ) → List ℕ → ℕ → List Hit
-sifts t f xs y = each (sift t f y) xs
+sifts t f xs y = flatMap (sift t f y) xs
 
 abbrev pub sifted : (ℕ → ℕ → Bool) → (ℕ → ℕ) → List ℕ → List ℕ → List Hit
-sifted t f xs ys = each (sifts t f xs) ys
+sifted t f xs ys = flatMap (sifts t f xs) ys
 
 -- What hits make of the bytes and of the tally.
 abbrev pub land : Canvas → List Hit → Work → Work

@@ -1,6 +1,6 @@
 -- What the contracts of touches, rows and chunks speak of.
 use mathlib.Core.Path.{_≡_}
-use mathlib.Core.List.{List, [], _∷_, _++_}
+use mathlib.Core.List.{List, [], _∷_, flatMap}
 use Prim.Native.Nat.{ℕ, zero, suc, _-_}
 use lib.ListN.{getD}
 use Rattle.pixels.specs.declared.Canvas.{Canvas}
@@ -12,11 +12,6 @@ unfoldable pub run : ℕ → ℕ → List ℕ
 run i zero = []
 run i (suc n) = i ∷ run (suc i) n
 
--- What each number gives, one number after the other.
-unfoldable pub each : {A : Type 0} → (ℕ → List A) → List ℕ → List A
-each g [] = []
-each g (x ∷ xs) = g x ++ each g xs
-
 -- What a touch of the s bytes from o on leaves.
 pub record Touched (s o : ℕ) (f : ℕ → ℕ) (b b′ : List ℕ) : Type 0 where
   pub same : b′ ≡ store (cells s o) b (f (load (cells s o) b))
@@ -26,10 +21,10 @@ unfoldable pub mark : (ℕ → ℕ → ℕ → ℕ) → ℕ → ℕ → List Hit
 mark f y x = hit (f x y) x y ∷ []
 
 abbrev pub marks : (ℕ → ℕ → ℕ → ℕ) → List ℕ → ℕ → List Hit
-marks f xs y = each (mark f y) xs
+marks f xs y = flatMap (mark f y) xs
 
 abbrev pub field : (ℕ → ℕ → ℕ → ℕ) → List ℕ → List ℕ → List Hit
-field f xs ys = each (marks f xs) ys
+field f xs ys = flatMap (marks f xs) ys
 
 -- One ink everywhere.
 abbrev pub flat : (ℕ → ℕ) → ℕ → ℕ → ℕ → ℕ

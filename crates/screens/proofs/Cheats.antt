@@ -1,7 +1,7 @@
 -- "A build that refuses everything, paints one fixed screen, paints nothing, draws the first of a list and skips the rest, or
 -- invents the count is shut out by demand 2": five theorems on the definition that the contracts of the calls cite.
 use mathlib.Core.Path.{_≡_, refl, sym, ap, _∙_}
-use mathlib.Core.List.{List, [], _∷_}
+use mathlib.Core.List.{List, [], _∷_, flatMap}
 use Prim.Native.Nat.{ℕ}
 use native.Mathlib.Omega.{arith}
 use lib.IntN.{pos}
@@ -17,7 +17,6 @@ use Rattle.canvas.specs.Faults.{formatFault, sizeFault, lengthFault, orElse, ve
 use Rattle.canvas.specs.Plot.{tint, dip, onCanvas, fate, hits}
 use Rattle.pixels.specs.Hits.{touch, paint}
 use Rattle.canvas.specs.Boxes.{select, fill}
-use Rattle.pixels.specs.Rows.{each}
 use Rattle.canvas.specs.Call.{Call, putPixel, fillRect, dots, drawing, call}
 use Rattle.canvas.specs.Calls.{after}
 use Rattle.screens.specs.Screens.{clip, small}
@@ -54,5 +53,5 @@ not-nothing h = differ (sym whitened ∙ h (small 2 1) (on 0 white) (0 ∷ 0 ∷
 -- draws the first of a list and skips the rest: of a box of two pixels both are painted, and of two calls both are made
 pub not-the-first-alone : (call (small 2 1) (fillRect (pos 0) (pos 0) 2 1 white (clip 0 0 2 1)) (0 ∷ 0 ∷ []) .bytes ≡ 255 ∷ 255 ∷ [])
     × (after (small 2 1) (on 0 white ∷ on 1 white ∷ []) (0 ∷ 0 ∷ []) ≡ 255 ∷ 255 ∷ [])
-unfolding after drawing verdict formatFault sizeFault lengthFault extent formatOf bytesPerPixel orElse dots tint dip fill each select hits fate onCanvas inClip within paint touch loadAt storeAt pixel cells load store get put plotWord fromColor
+unfolding after drawing verdict formatFault sizeFault lengthFault extent formatOf bytesPerPixel orElse dots tint dip fill flatMap select hits fate onCanvas inClip within paint touch loadAt storeAt pixel cells load store get put plotWord fromColor
 not-the-first-alone = (refl, refl)

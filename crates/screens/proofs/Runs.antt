@@ -1,5 +1,5 @@
 -- Any order, and taking away, of the public functions themselves: each step of a run is a function's own contract, held
--- between entry and exit. A run leaves what its calls leave, and the rest is in Reverse and Veils. A new call adds a
+-- between entry and exit. A run leaves what its calls leave, and the rest is in Reverse and Alphas. A new call adds a
 -- constructor of `Made` and a case of `made-is` and `colored`.
 use mathlib.Core.Path.{_≡_, refl, sym, ap, ap₂, _∙_}
 use mathlib.Core.Bool.{Bool, true, false, cond}
@@ -36,15 +36,15 @@ use Rattle.canvas.specs.Plot.{hits}
 use Rattle.canvas.specs.Call.{Call, putPixel, drawLine, drawRect, fillRect, clipOf, faultOf, plots, Outcome, statusOf, countOf, leaves, ruled, drawing, call}
 use Rattle.ovals.specs.Call.{drawArc, fillArc, drawRoundRect, fillRoundRect}
 use Rattle.canvas.specs.Call.{draw as drawCall}
-use Rattle.canvas.specs.Calls.{after, veiled}
+use Rattle.canvas.specs.Calls.{after, madeSolid}
 use Rattle.pixels.proofs.bytes.Cells.{Bytes}
 use Rattle.canvas.proofs.faults.Verdicts.{sized}
 use Rattle.pixels.proofs.Hits.{paint-length}
 use Rattle.canvas.proofs.Determined.{leaves-same}
 use Rattle.canvas.proofs.Reverse.{Colored, Fine, end, then}
 use Rattle.canvas.proofs.Reverse as reverse
-use Rattle.canvas.proofs.Veils.{solid}
-use Rattle.canvas.proofs.Veils as veils
+use Rattle.canvas.proofs.Alphas.{solid}
+use Rattle.canvas.proofs.Alphas as alphas
 use Rattle.canvas.proofs.put_pixel.Kinds as put-pixel-kinds
 use Rattle.canvas.proofs.put_pixel.Reads as put-pixel
 use Rattle.canvas.proofs.draw_line.Kinds as draw-line-kinds
@@ -217,15 +217,15 @@ module _ {v : Canvas} {ks ls : List Call} {b b′ b″ : List ℕ} {ds es : List
 
   -- where words keep alpha, on a canvas that is not refused: the word at every pixel
   pub words-back : v .xor ≡ true → keepsAlpha (form v) ≡ true → Bytes b → verdict v (length b) ≡ Sound → List·Permᴰ ks ls → Run v ks b ds b′ → Run v ls b′ es b″
-      → (x y : ℕ) → On v x y → loadAt v b″ x y ≡ cond (veiled v ks x y) (solid (loadAt v b x y)) (loadAt v b x y)
+      → (x y : ℕ) → On v x y → loadAt v b″ x y ≡ cond (madeSolid v ks x y) (solid (loadAt v b x y)) (loadAt v b x y)
   words-back xo a o e s p q x y on =
       ap (λ (c : List ℕ). loadAt v c x y) (run-is (run-append p q))
-      ∙ veils.colors-back v ks ls b xo a (record { long = sized v b e .long; bytes = o }) e (fine p) s x y on
+      ∙ alphas.colors-back v ks ls b xo a (record { long = sized v b e .long; bytes = o }) e (fine p) s x y on
 
   -- and its colour: the first one, but that alpha is 255 where a point of an alpha other than 0 landed
   pub colors-back : v .xor ≡ true → keepsAlpha (form v) ≡ true → Bytes b → verdict v (length b) ≡ Sound → List·Permᴰ ks ls → Run v ks b ds b′ → Run v ls b′ es b″
-      → (x y : ℕ) → On v x y → seenAt v b″ x y ≡ cond (veiled v ks x y) (opaque (seenAt v b x y)) (seenAt v b x y)
-  colors-back xo a o e s p q x y on = ap (toColor (form v)) (words-back xo a o e s p q x y on) ∙ go (veiled v ks x y)
+      → (x y : ℕ) → On v x y → seenAt v b″ x y ≡ cond (madeSolid v ks x y) (opaque (seenAt v b x y)) (seenAt v b x y)
+  colors-back xo a o e s p q x y on = ap (toColor (form v)) (words-back xo a o e s p q x y on) ∙ go (madeSolid v ks x y)
     where
       go : (t : Bool) → toColor (form v) (cond t (solid (loadAt v b x y)) (loadAt v b x y)) ≡ cond t (opaque (seenAt v b x y)) (seenAt v b x y)
       go true = solid-color (form v) (loadAt v b x y) a

@@ -1,6 +1,6 @@
 -- The rule meets 01's two inequalities at every up and right: each eighth of a turn is the first one, mirrored. Assumes nothing.
 use mathlib.Core.Path.{_≡_, refl, sym, subst}
-use mathlib.Core.Bool.{Bool, true, false, not}
+use mathlib.Core.Bool.{Bool, true, false, not, cond}
 use mathlib.Core.Logic.{⊎-elim}
 use Prim.Native.Nat.{ℕ, _+_, _*_, _-_, _≤_, _<_}
 use native.Mathlib.Nat.{mul-le-mul-left, mul-pos, eq-or-lt-of-le, zero-div, zero-mod, mul-div-cancel-left, mul-mod-right}
@@ -11,7 +11,7 @@ use lib.Ieee.{size}
 use Rattle.angle.specs.Meaning.{D, H, coef, whole, signed, sine, cosine, Along}
 use Rattle.angle.proofs.Terms.{sinAt, cosAt, sum}
 use Rattle.angle.specs.Nodes.{nodes}
-use Rattle.angle.specs.Arctangent.{eighth, turn, pick}
+use Rattle.angle.specs.Arctangent.{eighth, turn}
 use Rattle.angle.proofs.arctangent.Near.{Good, near}
 use Rattle.angle.proofs.arctangent.Limits.{under-45, above-0}
 use Rattle.angle.proofs.arctangent.Angles.{product, product-hi, product-lo, Close, near-0, near-90-, near-90+, near-180-, side-90-, side-90+, side-180-}
@@ -176,48 +176,48 @@ eighth-45 u h = rw (mul-div-cancel-left 512 {n = u} h, mul-mod-right u 512, zero
 abbrev Whole : Bool → Bool → ℕ → ℕ → Type 0
 Whole s l u v = Answer s l u v (turn l u v)
 
-by-test : (s l : Bool) (u v : ℕ) (b : Bool) → leb u v ≡ b → Answer s l u v (pick b (pick l (11796480 - eighth u v) (eighth u v)) (pick l (5898240 + eighth v u) (5898240 - eighth v u))) → Whole s l u v
+by-test : (s l : Bool) (u v : ℕ) (b : Bool) → leb u v ≡ b → Answer s l u v (cond b (cond l (11796480 - eighth u v) (eighth u v)) (cond l (5898240 + eighth v u) (5898240 - eighth v u))) → Whole s l u v
 unfolding turn
 by-test s l u v b e a =
-    subst (λ (c : Bool). Answer s l u v (pick c (pick l (11796480 - eighth u v) (eighth u v)) (pick l (5898240 + eighth v u) (5898240 - eighth v u)))) (sym e) a
+    subst (λ (c : Bool). Answer s l u v (cond c (cond l (11796480 - eighth u v) (eighth u v)) (cond l (5898240 + eighth v u) (5898240 - eighth v u)))) (sym e) a
 
 -- up's size is at most right's
-wide : (s l : Bool) (u v : ℕ) → u ≤ v → v ≤ 32766 → 0 < v → Answer s l u v (pick l (11796480 - eighth u v) (eighth u v))
+wide : (s l : Bool) (u v : ℕ) → u ≤ v → v ≤ 32766 → 0 < v → Answer s l u v (cond l (11796480 - eighth u v) (eighth u v))
 unfolding n
 wide s l u v h top pos =
     ⊎-elim
-    (λ (e : u ≡ v). subst (λ (w : ℕ). Answer s l w v (pick l (11796480 - eighth w v) (eighth w v))) (sym e) (equal l))
+    (λ (e : u ≡ v). subst (λ (w : ℕ). Answer s l w v (cond l (11796480 - eighth w v) (eighth w v))) (sym e) (equal l))
     (λ (lt : u < v).
-    ⊎-elim (λ (e : 0 ≡ u). subst (λ (w : ℕ). Answer s l w v (pick l (11796480 - eighth w v) (eighth w v))) e (none l)) (λ (p : 0 < u). some l lt p)
+    ⊎-elim (λ (e : 0 ≡ u). subst (λ (w : ℕ). Answer s l w v (cond l (11796480 - eighth w v) (eighth w v))) e (none l)) (λ (p : 0 < u). some l lt p)
     (eq-or-lt-of-le {n = 0} {m = u} (omega arith)))
     (eq-or-lt-of-le h)
   where
-    equal : (l : Bool) → Answer s l v v (pick l (11796480 - eighth v v) (eighth v v))
+    equal : (l : Bool) → Answer s l v v (cond l (11796480 - eighth v v) (eighth v v))
     equal false = subst (λ (n : ℕ). Answer s false v v n) (sym (eighth-45 v pos)) (diagonal-1 s v pos)
     equal true = subst (λ (n : ℕ). Answer s true v v (11796480 - n)) (sym (eighth-45 v pos)) (diagonal-2 s v pos)
 
-    none : (l : Bool) → Answer s l 0 v (pick l (11796480 - eighth 0 v) (eighth 0 v))
+    none : (l : Bool) → Answer s l 0 v (cond l (11796480 - eighth 0 v) (eighth 0 v))
     none false = subst (λ (n : ℕ). Answer s false 0 v n) (sym (eighth-0 v pos)) (axis-1 s v pos)
     none true = subst (λ (n : ℕ). Answer s true 0 v (11796480 - n)) (sym (eighth-0 v pos)) (axis-3 s v pos)
 
-    some : (l : Bool) → u < v → 0 < u → Answer s l u v (pick l (11796480 - eighth u v) (eighth u v))
+    some : (l : Bool) → u < v → 0 < u → Answer s l u v (cond l (11796480 - eighth u v) (eighth u v))
     some false lt p = inner-1 s u v p lt top
     some true lt p = inner-4 s u v p lt top (11796480 - eighth u v) (omega (arith, under-45 u v lt))
 
-tall : (s l : Bool) (u v : ℕ) → v < u → u ≤ 32766 → Answer s l u v (pick l (5898240 + eighth v u) (5898240 - eighth v u))
+tall : (s l : Bool) (u v : ℕ) → v < u → u ≤ 32766 → Answer s l u v (cond l (5898240 + eighth v u) (5898240 - eighth v u))
 unfolding n
 tall s l u v lt top =
-    ⊎-elim (λ (e : 0 ≡ v). subst (λ (w : ℕ). Answer s l u w (pick l (5898240 + eighth w u) (5898240 - eighth w u))) e (none l)) (λ (p : 0 < v). some l p)
+    ⊎-elim (λ (e : 0 ≡ v). subst (λ (w : ℕ). Answer s l u w (cond l (5898240 + eighth w u) (5898240 - eighth w u))) e (none l)) (λ (p : 0 < v). some l p)
     (eq-or-lt-of-le {n = 0} {m = v} (omega arith))
   where
     pos : 0 < u
     pos = omega arith
 
-    none : (l : Bool) → Answer s l u 0 (pick l (5898240 + eighth 0 u) (5898240 - eighth 0 u))
+    none : (l : Bool) → Answer s l u 0 (cond l (5898240 + eighth 0 u) (5898240 - eighth 0 u))
     none false = subst (λ (n : ℕ). Answer s false u 0 (5898240 - n)) (sym (eighth-0 u pos)) (axis-2 s false u pos)
     none true = subst (λ (n : ℕ). Answer s true u 0 (5898240 + n)) (sym (eighth-0 u pos)) (axis-2 s true u pos)
 
-    some : (l : Bool) → 0 < v → Answer s l u v (pick l (5898240 + eighth v u) (5898240 - eighth v u))
+    some : (l : Bool) → 0 < v → Answer s l u v (cond l (5898240 + eighth v u) (5898240 - eighth v u))
     some false p = inner-2 s v u p lt top (5898240 - eighth v u) (omega (arith, under-45 v u lt))
     some true p = inner-3 s v u p lt top (5898240 + eighth v u) refl
 

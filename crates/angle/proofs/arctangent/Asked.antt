@@ -19,7 +19,7 @@ use Rattle.number.proofs.Range.{no}
 use Rattle.number.proofs.Signs.{sign-other}
 use Rattle.angle.specs.Meaning.{D, signed, parts, sine, cosine, Along}
 use Rattle.number.specs.Size.{signOf, plusZero}
-use Rattle.angle.specs.Arctangent.{turn, eighth, pick, halvesOf, isHalves, degreesOf, arctangentOf, Domain, Arctangent}
+use Rattle.angle.specs.Arctangent.{turn, eighth, halvesOf, isHalves, degreesOf, arctangentOf, Domain, Arctangent}
 use Rattle.angle.proofs.arctangent.Angles.{product, product-is}
 use Rattle.angle.proofs.arctangent.Placed.{part, flat}
 use Rattle.angle.proofs.arctangent.Around.{all, eighth-0, eighth-45}
@@ -31,7 +31,7 @@ turn-most : (l : Bool) (u v : ℕ) → 0 < u + v → turn l u v ≤ 11796480
 unfolding turn
 turn-most l u v h = go (leb u v) (leb→le u v) (nleb→lt u v) l
   where
-    go : (b : Bool) → (T b → u ≤ v) → (T (not b) → v < u) → (l : Bool) → pick b (pick l (11796480 - eighth u v) (eighth u v)) (pick l (5898240 + eighth v u) (5898240 - eighth v u)) ≤ 11796480
+    go : (b : Bool) → (T b → u ≤ v) → (T (not b) → v < u) → (l : Bool) → cond b (cond l (11796480 - eighth u v) (eighth u v)) (cond l (5898240 + eighth v u) (5898240 - eighth v u)) ≤ 11796480
     go true f g true = omega arith
     go true f g false = let k : u ≤ v = f tt in omega (arith, top u v k (omega arith))
     go false f g true = let k : v < u = g tt in omega (arith, top v u (omega arith) (omega arith))
@@ -142,22 +142,22 @@ exactly y x n m e f g =
     both true = unfold neg in refl
     both false = refl
 
-flat-turn : (l : Bool) (v : ℕ) → 0 < v → turn l 0 v ≡ pick l 11796480 0
+flat-turn : (l : Bool) (v : ℕ) → 0 < v → turn l 0 v ≡ cond l 11796480 0
 unfolding turn
-flat-turn l v h = ap (λ (b : Bool). pick b (pick l (11796480 - eighth 0 v) (eighth 0 v)) (pick l (5898240 + eighth v 0) (5898240 - eighth v 0))) (le-leb 0 v (omega arith)) ∙ ap (λ (z : ℕ). pick l (11796480 - z) z) (eighth-0 v h)
+flat-turn l v h = ap (λ (b : Bool). cond b (cond l (11796480 - eighth 0 v) (eighth 0 v)) (cond l (5898240 + eighth v 0) (5898240 - eighth v 0))) (le-leb 0 v (omega arith)) ∙ ap (λ (z : ℕ). cond l (11796480 - z) z) (eighth-0 v h)
 
 steep-turn : (l : Bool) (u : ℕ) → 0 < u → turn l u 0 ≡ 5898240
 unfolding turn
 steep-turn l u h =
-    ap (λ (b : Bool). pick b (pick l (11796480 - eighth u 0) (eighth u 0)) (pick l (5898240 + eighth 0 u) (5898240 - eighth 0 u))) (lt-leb u 0 h) ∙ ap (λ (z : ℕ). pick l (5898240 + z) (5898240 - z)) (eighth-0 u h) ∙ same l
+    ap (λ (b : Bool). cond b (cond l (11796480 - eighth u 0) (eighth u 0)) (cond l (5898240 + eighth 0 u) (5898240 - eighth 0 u))) (lt-leb u 0 h) ∙ ap (λ (z : ℕ). cond l (5898240 + z) (5898240 - z)) (eighth-0 u h) ∙ same l
   where
-    same : (l : Bool) → pick l 5898240 5898240 ≡ 5898240
+    same : (l : Bool) → cond {A = ℕ} l 5898240 5898240 ≡ 5898240
     same true = refl
     same false = refl
 
-even-turn : (l : Bool) (u : ℕ) → 0 < u → turn l u u ≡ pick l 8847360 2949120
+even-turn : (l : Bool) (u : ℕ) → 0 < u → turn l u u ≡ cond l 8847360 2949120
 unfolding turn
-even-turn l u h = ap (λ (b : Bool). pick b (pick l (11796480 - eighth u u) (eighth u u)) (pick l (5898240 + eighth u u) (5898240 - eighth u u))) (le-leb u u (le-refl u)) ∙ ap (λ (z : ℕ). pick l (11796480 - z) z) (eighth-45 u h)
+even-turn l u h = ap (λ (b : Bool). cond b (cond l (11796480 - eighth u u) (eighth u u)) (cond l (5898240 + eighth u u) (5898240 - eighth u u))) (le-leb u u (le-refl u)) ∙ ap (λ (z : ℕ). cond l (11796480 - z) z) (eighth-45 u h)
 
 turn-is : (y x : Float) (l : Bool) (u v : ℕ) → lt x plusZero ≡ l → halvesOf y ≡ u → halvesOf x ≡ v → turn (lt x plusZero) (halvesOf y) (halvesOf x) ≡ turn l u v
 turn-is y x l u v a b c = cc

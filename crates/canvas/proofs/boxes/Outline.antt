@@ -1,7 +1,7 @@
 -- An outline's plots land as those of four fills do, in another order.
 use mathlib.Core.Path.{_≡_, refl, sym, ap, ap₂, _∙_}
 use mathlib.Core.Bool.{Bool, true, false, cond, _||_}
-use mathlib.Core.List.{List, [], _∷_, _++_, append-nil, append-assoc, List·Permᴰ, List·Permᴰ·nil, List·Permᴰ·cons, List·Permᴰ·swap, List·Permᴰ·trans, Permᴰ·append-right, Permᴰ·append-left, List·Permᴰ·append-comm}
+use mathlib.Core.List.{List, [], _∷_, _++_, append-nil, append-assoc, List·Permᴰ, List·Permᴰ·nil, List·Permᴰ·cons, List·Permᴰ·swap, List·Permᴰ·trans, Permᴰ·append-right, Permᴰ·append-left, List·Permᴰ·append-comm, flatMap}
 use Prim.Native.Nat.{ℕ, zero, suc, _+_, _*_, _-_, _/_, _≤_, _<_, min}
 use native.Mathlib.Omega.{arith}
 use native.Mathlib.Nat.{zero-add}
@@ -20,7 +20,7 @@ use Rattle.canvas.specs.Clip.{within}
 use Rattle.canvas.specs.Plot.{Point, at, inks, onCanvas, hits}
 use Rattle.pixels.specs.Hits.{Hit}
 use Rattle.canvas.specs.Boxes.{side, fill, below, border, outline}
-use Rattle.pixels.specs.Rows.{each, run, flat}
+use Rattle.pixels.specs.Rows.{run, flat}
 use Rattle.canvas.specs.Boxes.{edges}
 use Rattle.canvas.specs.Walk.{lowered, Holds, Work, work, drawn, Keeps, Ready, Did}
 use Rattle.canvas.proofs.span.Spans.{both-no, run-is, select-none}
@@ -86,30 +86,30 @@ module _ (v : Canvas) (c : Clip) (f : ℕ → ℕ) where
   land-append : (ps qs : List Point) → land (ps ++ qs) ≡ land ps ++ land qs
   land-append ps qs = ap (hits v c) (inks-append f ps qs) ∙ hits-append v c (inks f ps) (inks f qs)
 
-  land-each : (g : ℕ → List Point) (xs : List ℕ) → land (each g xs) ≡ each (λ x. land (g x)) xs
+  land-each : (g : ℕ → List Point) (xs : List ℕ) → land (flatMap g xs) ≡ flatMap (λ x. land (g x)) xs
   land-each g xs = ap (hits v c) (inks-each f g (λ x. inks f (g x)) xs (λ x. refl)) ∙ hits-each v c (λ x. inks f (g x)) xs
 
   -- points off the canvas do not land
-  land-off : (g : ℕ → Point) → ((k : ℕ) → onCanvas v (g k .x) (g k .y) ≡ false) → (xs : List ℕ) → land (each (λ k. g k ∷ []) xs) ≡ []
-  unfolding each inks hits
+  land-off : (g : ℕ → Point) → ((k : ℕ) → onCanvas v (g k .x) (g k .y) ≡ false) → (xs : List ℕ) → land (flatMap (λ k. g k ∷ []) xs) ≡ []
+  unfolding flatMap inks hits
   land-off g e [] = refl
   land-off g e (x ∷ xs) = rw (is-outside v c (g x .x) (g x .y) f (e x)) (land-off g e xs)
 
   -- ---- a row of points at any y, and a column at any x, land as fills do
 
-  row-lands : (x y : ℤ) (w : ℕ) → land (each (λ i. at (pos i) y ∷ []) (side x w (v .width))) ≡ land (fill v x y w 1)
-  unfolding fill each inks hits
+  row-lands : (x y : ℤ) (w : ℕ) → land (flatMap (λ i. at (pos i) y ∷ []) (side x w (v .width))) ≡ land (fill v x y w 1)
+  unfolding fill flatMap inks hits
   row-lands x y w = go (one-of y (v .height))
     where
-      go : One y (v .height) → land (each (λ i. at (pos i) y ∷ []) (side x w (v .width))) ≡ land (each (λ j. each (λ i. at (pos i) (pos j) ∷ []) (side x w (v .width))) (side y 1 (v .height)))
-      go (on m e l s) = rw (e, rw e at s) (ap land (sym (append-nil (each (λ i. at (pos i) (pos m) ∷ []) (side x w (v .width))))))
+      go : One y (v .height) → land (flatMap (λ i. at (pos i) y ∷ []) (side x w (v .width))) ≡ land (flatMap (λ j. flatMap (λ i. at (pos i) (pos j) ∷ []) (side x w (v .width))) (side y 1 (v .height)))
+      go (on m e l s) = rw (e, rw e at s) (ap land (sym (append-nil (flatMap (λ i. at (pos i) (pos m) ∷ []) (side x w (v .width))))))
       go (off e s) = rw s (land-off (λ i. at (pos i) y) (λ k. off-down v (pos k) y e) (side x w (v .width)))
 
-  column-lands : (x y : ℤ) (h : ℕ) → land (each (λ j. at x (pos j) ∷ []) (side y h (v .height))) ≡ land (fill v x y 1 h)
-  unfolding fill each inks hits
+  column-lands : (x y : ℤ) (h : ℕ) → land (flatMap (λ j. at x (pos j) ∷ []) (side y h (v .height))) ≡ land (fill v x y 1 h)
+  unfolding fill flatMap inks hits
   column-lands x y h = go (one-of x (v .width))
     where
-      go : One x (v .width) → land (each (λ j. at x (pos j) ∷ []) (side y h (v .height))) ≡ land (each (λ j. each (λ i. at (pos i) (pos j) ∷ []) (side x 1 (v .width))) (side y h (v .height)))
+      go : One x (v .width) → land (flatMap (λ j. at x (pos j) ∷ []) (side y h (v .height))) ≡ land (flatMap (λ j. flatMap (λ i. at (pos i) (pos j) ∷ []) (side x 1 (v .width))) (side y h (v .height)))
       go (on m e l s) = rw (e, rw e at s) refl
       go (off e s) = land-off (λ j. at x (pos j)) (λ k. off-across v x (pos k) e) (side y h (v .height)) ∙ sym (rw s (ap land (none-each (side y h (v .height)))))
 
@@ -123,35 +123,35 @@ module _ (v : Canvas) (c : Clip) (f : ℕ → ℕ) where
       go (on m f l s) = absurd (let q : ltb m n ≡ false = rw f at e in let z : _≡_ {A = ℕ} 0 1 = ap (λ (t : Bool). cond t 0 1) (sym (lt-ltb m n l) ∙ q) in omega arith)
 
   no-row : (x y : ℤ) (w : ℕ) → ltZ y (pos (v .height)) ≡ false → fill v x y w 1 ≡ []
-  unfolding fill each
+  unfolding fill flatMap
   no-row x y w e = rw (off-past y (v .height) e) refl
 
   no-column : (x y : ℤ) (h : ℕ) → ltZ x (pos (v .width)) ≡ false → fill v x y 1 h ≡ []
-  unfolding fill each
+  unfolding fill flatMap
   no-column x y h e = rw (off-past x (v .width) e) (none-each (side y h (v .height)))
 
-  bottom-lands : (x y : ℤ) (w : ℕ) → each (λ i. land (below y (v .height) (at (pos i) y))) (side x w (v .width)) ≡ land (fill v x y w 1)
+  bottom-lands : (x y : ℤ) (w : ℕ) → flatMap (λ i. land (below y (v .height) (at (pos i) y))) (side x w (v .width)) ≡ land (fill v x y w 1)
   bottom-lands x y w = sym (land-each (λ i. below y (v .height) (at (pos i) y)) (side x w (v .width))) ∙ go (ltZ y (pos (v .height))) refl
     where
-      go : (t : Bool) → ltZ y (pos (v .height)) ≡ t → land (each (λ i. below y (v .height) (at (pos i) y)) (side x w (v .width))) ≡ land (fill v x y w 1)
+      go : (t : Bool) → ltZ y (pos (v .height)) ≡ t → land (flatMap (λ i. below y (v .height) (at (pos i) y)) (side x w (v .width))) ≡ land (fill v x y w 1)
       go true e = rw e (row-lands x y w)
       go false e = rw e (ap land (none-each (side x w (v .width)) ∙ sym (no-row x y w e)))
 
-  right-lands : (x y : ℤ) (h : ℕ) → each (λ j. land (below x (v .width) (at x (pos j)))) (side y h (v .height)) ≡ land (fill v x y 1 h)
+  right-lands : (x y : ℤ) (h : ℕ) → flatMap (λ j. land (below x (v .width) (at x (pos j)))) (side y h (v .height)) ≡ land (fill v x y 1 h)
   right-lands x y h = sym (land-each (λ j. below x (v .width) (at x (pos j))) (side y h (v .height))) ∙ go (ltZ x (pos (v .width))) refl
     where
-      go : (t : Bool) → ltZ x (pos (v .width)) ≡ t → land (each (λ j. below x (v .width) (at x (pos j))) (side y h (v .height))) ≡ land (fill v x y 1 h)
+      go : (t : Bool) → ltZ x (pos (v .width)) ≡ t → land (flatMap (λ j. below x (v .width) (at x (pos j))) (side y h (v .height))) ≡ land (fill v x y 1 h)
       go true e = rw e (column-lands x y h)
       go false e = rw e (ap land (none-each (side y h (v .height)) ∙ sym (no-column x y h e)))
 
   -- ---- two of each number are all of the first and all of the second
 
-  each-both : (g h : ℕ → List Hit) (xs : List ℕ) → List·Permᴰ (each (λ x. g x ++ h x) xs) (each g xs ++ each h xs)
-  unfolding each
+  each-both : (g h : ℕ → List Hit) (xs : List ℕ) → List·Permᴰ (flatMap (λ x. g x ++ h x) xs) (flatMap g xs ++ flatMap h xs)
+  unfolding flatMap
   each-both g h [] = List·Permᴰ·nil
   each-both g h (x ∷ xs) =
-      let G : List Hit = each g xs in
-      let H : List Hit = each h xs in
+      let G : List Hit = flatMap g xs in
+      let H : List Hit = flatMap h xs in
       List·Permᴰ·trans (Permᴰ·append-left (g x ++ h x) (each-both g h xs))
       (List·Permᴰ·trans (perm-of (append-assoc (g x) (h x) (G ++ H)))
       (List·Permᴰ·trans (Permᴰ·append-left (g x)
@@ -162,10 +162,10 @@ module _ (v : Canvas) (c : Clip) (f : ℕ → ℕ) where
   -- ---- the border
 
   -- points of each number, and points that may come with them
-  pairs-land : (p : ℕ → Point) (q : ℕ → List Point) (xs : List ℕ) → List·Permᴰ (land (each (λ k. p k ∷ q k) xs)) (land (each (λ k. p k ∷ []) xs) ++ each (λ k. land (q k)) xs)
+  pairs-land : (p : ℕ → Point) (q : ℕ → List Point) (xs : List ℕ) → List·Permᴰ (land (flatMap (λ k. p k ∷ q k) xs)) (land (flatMap (λ k. p k ∷ []) xs) ++ flatMap (λ k. land (q k)) xs)
   pairs-land p q xs =
       List·Permᴰ·trans (perm-of (land-each (λ k. p k ∷ q k) xs ∙ each-same _ _ xs (λ k. land-append (p k ∷ []) (q k))))
-      (List·Permᴰ·trans (each-both _ _ xs) (perm-of (ap (λ (l : List Hit). l ++ each (λ k. land (q k)) xs) (sym (land-each (λ k. p k ∷ []) xs)))))
+      (List·Permᴰ·trans (each-both _ _ xs) (perm-of (ap (λ (l : List Hit). l ++ flatMap (λ k. land (q k)) xs) (sym (land-each (λ k. p k ∷ []) xs)))))
 
   land-four : (a b d e : List Point) → land (a ++ (b ++ (d ++ e))) ≡ (land a ++ land b) ++ (land d ++ land e)
   land-four a b d e =
@@ -180,8 +180,8 @@ module _ (v : Canvas) (c : Clip) (f : ℕ → ℕ) where
       let u = y +ℤ pos (h - 1) in
       let xs = side x w (v .width) in
       let ys = side (y +ℤ pos 1) (h - 2) (v .height) in
-      let rows : List Point = each (λ i. at (pos i) y ∷ below u (v .height) (at (pos i) u)) xs in
-      let columns : List Point = each (λ j. at x (pos j) ∷ below r (v .width) (at r (pos j))) ys in
+      let rows : List Point = flatMap (λ i. at (pos i) y ∷ below u (v .height) (at (pos i) u)) xs in
+      let columns : List Point = flatMap (λ j. at x (pos j) ∷ below r (v .width) (at r (pos j))) ys in
       let tb : List·Permᴰ (land rows) (land (fill v x y w 1) ++ land (fill v x u w 1))
       = List·Permᴰ·trans (pairs-land (λ i. at (pos i) y) (λ i. below u (v .height) (at (pos i) u)) xs)
       (perm-of (ap₂ (λ (l m : List Hit). l ++ m) (row-lands x y w) (bottom-lands x u w))) in
@@ -268,7 +268,7 @@ border-le v x y w h hw hh =
     let two : (a : ℤ) (n : ℕ) (p q : Point) → length (p ∷ below a n q) ≤ 2 = λ a n p q. at-most-two (ltZ a (pos n)) p q in
     omega (
       arith,
-      length-append (each (λ i. at (pos i) y ∷ below u (v .height) (at (pos i) u)) xs) (each (λ j. at x (pos j) ∷ below r (v .width) (at r (pos j))) ys),
+      length-append (flatMap (λ i. at (pos i) y ∷ below u (v .height) (at (pos i) u)) xs) (flatMap (λ j. at x (pos j) ∷ below r (v .width) (at r (pos j))) ys),
       each-le (λ i. at (pos i) y ∷ below u (v .height) (at (pos i) u)) 2 xs (λ i. two u (v .height) (at (pos i) y) (at (pos i) u)),
       each-le (λ j. at x (pos j) ∷ below r (v .width) (at r (pos j))) 2 ys (λ j. two r (v .width) (at x (pos j)) (at r (pos j))),
       select-le (λ i. within x w (pos i)) 0 (v .width),

@@ -1,6 +1,6 @@
 -- A plot that is tried against the columns and rows of a window has the fate of one tried against canvas and clip.
 use mathlib.Core.Path.{_≡_, refl, sym, ap, ap₂, _∙_}
-use mathlib.Core.Bool.{Bool, true, false, cond}
+use mathlib.Core.Bool.{Bool, true, false, cond, _&&_}
 use mathlib.Core.List.{List, [], _∷_}
 use Prim.Native.Nat.{ℕ, suc, _+_, _-_, _≤_, _<_}
 use native.Mathlib.Omega.{arith}
@@ -17,7 +17,7 @@ use Rattle.pixels.specs.declared.Canvas.{Canvas}
 use Rattle.canvas.specs.declared.Clip.{Clip}
 use Rattle.canvas.specs.declared.Tally.{Tally}
 use Rattle.pixels.specs.declared.rows.Span.{Span}
-use Rattle.canvas.specs.Clip.{both, within, inClip}
+use Rattle.canvas.specs.Clip.{within, inClip}
 use Rattle.canvas.specs.Plot.{Point, at, Plot, plot, inks, landed, judge, onCanvas, fate}
 use Rattle.pixels.specs.Hits.{hit, touch}
 use Rattle.canvas.specs.Walk.{lowered, cutOf, Holds, Cut, plus, Work, work, act, drawn, Did, covers, dabbed, dabs, Window, Fields}
@@ -34,16 +34,16 @@ never e = let z : _≡_ {A = ℕ} 0 1 = cc in absurd (omega arith)
 
 -- one of the two
 module _ (c : ℤ) (m n : ℕ) (s : Span) (k : Cut 0 n c m n (s .from) (s .to)) where
-  covers-is : (z : ℤ) → covers s z ≡ both (within (pos 0) n z) (within c m z)
+  covers-is : (z : ℤ) → covers s z ≡ (within (pos 0) n z && within c m z)
   unfolding covers
   covers-is (negsuc i) = rw (side-minus n i) refl
   covers-is (pos i) = go (decLt i n)
     where
-      go : Dec (i < n) → both (leb (s .from) i) (ltb i (s .to)) ≡ both (within (pos 0) n (pos i)) (within c m (pos i))
+      go : Dec (i < n) → (leb (s .from) i && ltb i (s .to)) ≡ (within (pos 0) n (pos i) && within c m (pos i))
       go (yes l) = sym (k .point (λ j. within (pos 0) n (pos j)) (side-holds n) i l)
       go (no l) = rw (le-ltb i (s .to) (omega (arith, k .held)), side-past n i (omega arith)) (both-no (leb (s .from) i))
 
-fates : (v : Canvas) (p : Plot) (a b c d : Bool) (w : Work) → cond (both (both a c) (both b d)) (act v p landed w) w ≡ act v p (judge (both a b) (both c d)) w
+fates : (v : Canvas) (p : Plot) (a b c d : Bool) (w : Work) → cond ((a && c) && (b && d)) (act v p landed w) w ≡ act v p (judge (a && b) (c && d)) w
 fates v p true true true true w = refl
 fates v p true true true false w = refl
 fates v p true true false d w = refl
@@ -83,7 +83,7 @@ pub not-from : (s : Span) (p : ℕ) → p < 2147483648 + s .from → false ≡ c
 unfolding covers
 not-from s p h = go (decLt p 2147483648)
   where
-    go : Dec (p < 2147483648) → false ≡ both (leZ (pos (s .from)) (lowered p)) (ltZ (lowered p) (pos (s .to)))
+    go : Dec (p < 2147483648) → false ≡ (leZ (pos (s .from)) (lowered p) && ltZ (lowered p) (pos (s .to)))
     go (yes l) = rw (lowered-neg p l) refl
     go (no l) = rw (lowered-pos p (omega arith), lt-leb (s .from) (p - 2147483648) (omega arith)) refl
 
@@ -104,7 +104,7 @@ covered s p e = go (decLt p 2147483648)
     go : Dec (p < 2147483648) → Covered s p
     go (yes l) = let z : false ≡ true = rw (lowered-neg p l) at e in absurd (never z)
     go (no l) =
-        let z : both (leb (s .from) (p - 2147483648)) (ltb (p - 2147483648) (s .to)) ≡ true = rw (lowered-pos p (omega arith)) at e in
+        let z : (leb (s .from) (p - 2147483648) && ltb (p - 2147483648) (s .to)) ≡ true = rw (lowered-pos p (omega arith)) at e in
         record { low = omega arith; inside = ltb-true (p - 2147483648) (s .to) (both-right (leb (s .from) (p - 2147483648)) (ltb (p - 2147483648) (s .to)) z) }
 
 module _ (v : Canvas) (xs ys : Span) (f : ℕ → ℕ) (p q : ℕ) where
@@ -125,7 +125,7 @@ module _ (v : Canvas) (xs ys : Span) (f : ℕ → ℕ) (p q : ℕ) where
 
 pub dabbed-length : (v : Canvas) (xs ys : Span) (f : ℕ → ℕ) (p : Point) (w : Work) → length (dabbed v xs ys f p w .bytes) ≡ length (w .bytes)
 unfolding dabbed
-dabbed-length v xs ys f p w = go (both (covers xs (p .x)) (covers ys (p .y)))
+dabbed-length v xs ys f p w = go (covers xs (p .x) && covers ys (p .y))
   where
     go : (t : Bool) → length (cond t (act v (plot f (p .x) (p .y)) landed w) w .bytes) ≡ length (w .bytes)
     go true = touch-length v (w .bytes) (hit f (natAbs (p .x)) (natAbs (p .y)))
@@ -138,7 +138,7 @@ dabs-length v xs ys f (p ∷ ps) w = dabs-length v xs ys f ps (dabbed v xs ys f 
 
 pub dabbed-grows : (v : Canvas) (xs ys : Span) (f : ℕ → ℕ) (p : Point) (w : Work) → dabbed v xs ys f p w .tally .landed ≤ w .tally .landed + 1
 unfolding dabbed
-dabbed-grows v xs ys f p w = go (both (covers xs (p .x)) (covers ys (p .y)))
+dabbed-grows v xs ys f p w = go (covers xs (p .x) && covers ys (p .y))
   where
     go : (t : Bool) → cond t (act v (plot f (p .x) (p .y)) landed w) w .tally .landed ≤ w .tally .landed + 1
     go true = omega arith

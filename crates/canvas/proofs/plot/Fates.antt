@@ -1,6 +1,6 @@
 -- The fate of a plot, from what the code tests.
 use mathlib.Core.Path.{_≡_, refl, sym, _∙_}
-use mathlib.Core.Bool.{Bool, true, false, cond}
+use mathlib.Core.Bool.{Bool, true, false, cond, _&&_}
 use Prim.Native.Nat.{ℕ, _+_, _-_, _≤_, _<_}
 use native.Mathlib.Omega.{arith}
 use native.Mathlib.Decide.{decLt}
@@ -11,7 +11,7 @@ use lib.IntN.{ℤ, pos, negsuc, natAbs}
 use Rattle.pixels.specs.declared.Canvas.{Canvas}
 use Rattle.canvas.specs.declared.Clip.{Clip}
 use Rattle.pixels.specs.Bytes.{On}
-use Rattle.canvas.specs.Clip.{both, within, inClip}
+use Rattle.canvas.specs.Clip.{within, inClip}
 use Rattle.canvas.specs.Plot.{Plot, plot, onCanvas, landed, outside, clipped, judge, fate}
 use Rattle.canvas.specs.Walk.{lowered}
 use Rattle.canvas.proofs.span.Spans.{both-no}
@@ -64,11 +64,11 @@ is-inside v c x y f false o e = rw (o, ← e) refl
 
 -- ---- what lands is on the canvas
 
-pub both-left : (a b : Bool) → both a b ≡ true → a ≡ true
+pub both-left : (a b : Bool) → (a && b) ≡ true → a ≡ true
 both-left true b e = refl
 both-left false b e = e
 
-pub both-right : (a b : Bool) → both a b ≡ true → b ≡ true
+pub both-right : (a b : Bool) → (a && b) ≡ true → b ≡ true
 both-right true b e = e
 both-right false b e = absurd (let z : _≡_ {A = ℕ} 0 1 = cc in omega arith)
 

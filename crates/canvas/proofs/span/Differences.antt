@@ -9,7 +9,8 @@ use lib.IntN.{ℤ, pos, negsuc, natAbs, negℤ, subℕ, _+ℤ_, _-ℤ_}
 use lib.Signed.{leZ, ltZ}
 use mir.Syntax.{w32}
 use mir.Val.{SFits}
-use Rattle.canvas.specs.Clip.{larger, smaller, extentOf, shared}
+use Rattle.number.specs.Whole.{atLeast0}
+use Rattle.canvas.specs.Clip.{larger, smaller, shared}
 use Rattle.canvas.specs.Walk.{lifted}
 use Rattle.canvas.proofs.span.Spans.{same-leb}
 
@@ -93,12 +94,12 @@ sub-abs m k = go (sign m k)
 
 -- ---- what two spans share
 
-extent-sub : (m k : ℕ) → extentOf (subℕ m k) ≡ m - k
+extent-sub : (m k : ℕ) → atLeast0 (subℕ m k) ≡ m - k
 extent-sub m k = go (sign m k)
   where
-    go : Sign m k → extentOf (subℕ m k) ≡ m - k
-    go (minus h) = ap extentOf (sub-neg m k h) ∙ omega arith
-    go (plus h) = ap extentOf (sub-pos m k h)
+    go : Sign m k → atLeast0 (subℕ m k) ≡ m - k
+    go (minus h) = ap atLeast0 (sub-neg m k h) ∙ omega arith
+    go (plus h) = ap atLeast0 (sub-pos m k h)
 
 module _ (p q k : ℕ) where
   larger-sub : larger (subℕ p k) (subℕ q k) ≡ subℕ (max p q) k
@@ -128,9 +129,9 @@ moved a m s =
 pub shared-lifted : (a b : ℤ) (m n : ℕ) → SFits w32 a → SFits w32 b → shared a m b n ≡ min (lifted a + m) (lifted b + n) - max (lifted a) (lifted b)
 unfolding shared
 shared-lifted a b m n sa sb =
-    ap₂ (λ (x y : ℤ). extentOf (x -ℤ y))
+    ap₂ (λ (x y : ℤ). atLeast0 (x -ℤ y))
     (ap₂ smaller (moved a m sa) (moved b n sb) ∙ smaller-sub (lifted a + m) (lifted b + n) 2147483648)
     (ap₂ larger (lifted-sub a sa) (lifted-sub b sb) ∙ larger-sub (lifted a) (lifted b) 2147483648)
-    ∙ ap extentOf (sub-sub (min (lifted a + m) (lifted b + n)) 2147483648 (max (lifted a) (lifted b)) 2147483648)
+    ∙ ap atLeast0 (sub-sub (min (lifted a + m) (lifted b + n)) 2147483648 (max (lifted a) (lifted b)) 2147483648)
     ∙ extent-sub (min (lifted a + m) (lifted b + n) + 2147483648) (2147483648 + max (lifted a) (lifted b))
     ∙ omega arith

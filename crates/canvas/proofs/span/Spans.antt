@@ -1,6 +1,6 @@
 -- A span of signed numbers, read above the least one, and the run of a canvas's side that lies in it.
 use mathlib.Core.Path.{_≡_, refl, sym, ap, ap₂, _∙_}
-use mathlib.Core.Bool.{Bool, true, false, cond}
+use mathlib.Core.Bool.{Bool, true, false, cond, _&&_}
 use mathlib.Core.List.{List, [], _∷_, _++_, append-nil}
 use Prim.Native.Nat.{ℕ, zero, suc, _+_, _-_, _≤_, _<_, min, max}
 use native.Mathlib.Omega.{arith}
@@ -15,13 +15,13 @@ use mir.Val.{SFits, toZ, ofZ}
 use mir.ValLaws.{toZ-ofZ, toZ-fits, ofZ-fits}
 use Rattle.canvas.specs.declared.Clip.{Clip}
 use Rattle.pixels.specs.declared.rows.Span.{Span}
-use Rattle.canvas.specs.Clip.{both, within, inClip}
+use Rattle.canvas.specs.Clip.{within, inClip}
 use Rattle.canvas.specs.Boxes.{select}
 use Rattle.canvas.specs.Walk.{lifted, lowered, Holds, Cut, span, cutOf}
 use Rattle.pixels.specs.Rows.{run}
 use Rattle.canvas.proofs.span.Lifts.{lift-is, lower-lift, lowered-neg, lowered-pos}
 
-pub both-no : (t : Bool) → both t false ≡ false
+pub both-no : (t : Bool) → (t && false) ≡ false
 both-no true = refl
 both-no false = refl
 
@@ -35,7 +35,7 @@ same-leb a b c d f g = go (decLe a b) (decLe c d)
     go (no h) (no k) = lt-leb a b (omega arith) ∙ sym (lt-leb c d (omega arith))
 
 -- the test of a span at a number that is not negative, among lifted numbers
-pub within-lowered : (u n p : ℕ) → within (lowered u) n (pos p) ≡ both (leb u (2147483648 + p)) (ltb (2147483648 + p) (u + n))
+pub within-lowered : (u n p : ℕ) → within (lowered u) n (pos p) ≡ (leb u (2147483648 + p) && ltb (2147483648 + p) (u + n))
 unfolding within
 within-lowered u n p = go (decLt u 2147483648)
   where
@@ -45,16 +45,16 @@ within-lowered u n p = go (decLt u 2147483648)
         rw (le-ltb n (suc (2147483647 - u)) (omega arith))
         (same-leb (suc p) (n - suc (2147483647 - u)) (suc (2147483648 + p)) (u + n) (omega arith) (omega arith))
 
-    go : Dec (u < 2147483648) → both (leZ (lowered u) (pos p)) (ltZ (pos p) (lowered u +ℤ pos n)) ≡ both (leb u (2147483648 + p)) (ltb (2147483648 + p) (u + n))
+    go : Dec (u < 2147483648) → (leZ (lowered u) (pos p) && ltZ (pos p) (lowered u +ℤ pos n)) ≡ (leb u (2147483648 + p) && ltb (2147483648 + p) (u + n))
     go (yes h) = rw (lowered-neg u h, le-leb u (2147483648 + p) (omega arith)) (past (decLt n (suc (2147483647 - u))) h)
     go (no h) =
         let l : 2147483648 ≤ u = omega arith in
         rw (lowered-pos u l)
-        (ap₂ both (same-leb (u - 2147483648) p u (2147483648 + p) (omega arith) (omega arith))
+        (ap₂ _&&_ (same-leb (u - 2147483648) p u (2147483648 + p) (omega arith) (omega arith))
         (same-leb (suc p) (u - 2147483648 + n) (suc (2147483648 + p)) (u + n) (omega arith) (omega arith)))
 
 within-lifted : (a : ℤ) (n p : ℕ) → SFits w32 a
-    → within a n (pos p) ≡ both (leb (lifted a) (2147483648 + p)) (ltb (2147483648 + p) (lifted a + n))
+    → within a n (pos p) ≡ (leb (lifted a) (2147483648 + p) && ltb (2147483648 + p) (lifted a + n))
 within-lifted a n p h = ap (λ (z : ℤ). within z n (pos p)) (sym (lower-lift a h)) ∙ within-lowered (lifted a) n p
 
 -- what `in_span` answers
@@ -140,18 +140,18 @@ run-is t lo end n to h e = go (decLe lo to)
 
 -- ---- the ends of what two tests share, and of one span
 
-pub holds-both : {t u : ℕ → Bool} {lo end lo′ end′ : ℕ} → Holds t lo end → Holds u lo′ end′ → Holds (λ k. both (t k) (u k)) (max lo lo′) (min end end′)
+pub holds-both : {t u : ℕ → Bool} {lo end lo′ end′ : ℕ} → Holds t lo end → Holds u lo′ end′ → Holds (λ k. t k && u k) (max lo lo′) (min end end′)
 holds-both {t} {u} {lo} {end} {lo′} {end′} h g = record {
   before = λ k l. no-start k l (decLt k lo);
   inside = λ k l m. rw (h .inside k (omega arith) (omega arith), g .inside k (omega arith) (omega arith)) refl;
   past = λ k l. no-end k l (decLe end k);
 }
   where
-    no-start : (k : ℕ) → k < max lo lo′ → Dec (k < lo) → both (t k) (u k) ≡ false
+    no-start : (k : ℕ) → k < max lo lo′ → Dec (k < lo) → (t k && u k) ≡ false
     no-start k l (yes m) = rw (h .before k m) refl
     no-start k l (no m) = rw (g .before k (omega arith)) (both-no (t k))
 
-    no-end : (k : ℕ) → min end end′ ≤ k → Dec (end ≤ k) → both (t k) (u k) ≡ false
+    no-end : (k : ℕ) → min end end′ ≤ k → Dec (end ≤ k) → (t k && u k) ≡ false
     no-end k l (yes m) = rw (h .past k m) refl
     no-end k l (no m) = rw (g .past k (omega arith)) (both-no (t k))
 
@@ -173,17 +173,17 @@ module _ (lo end : ℕ) (c : ℤ) (m n : ℕ) (s : SFits w32 c) (cf ct : ℕ) (e
   clip-holds = rw (lower-lift c s) at (span-holds (lifted c) m cf ct ef et)
 
   module _ (from to : ℕ) (gf : from ≡ max lo cf) (gt : to ≡ min (min end ct) n) where
-    same-run : (t : ℕ → Bool) → Holds t lo end → run from (to - from) ≡ select (λ i. both (t i) (within c m (pos i))) 0 n
+    same-run : (t : ℕ → Bool) → Holds t lo end → run from (to - from) ≡ select (λ i. t i && within c m (pos i)) 0 n
     same-run t h =
-        let g : Holds (λ i. both (t i) (within c m (pos i))) from (min end ct) = rw (← gf) at (holds-both h clip-holds) in
-        run-is (λ i. both (t i) (within c m (pos i))) from (min end ct) n to g gt
+        let g : Holds (λ i. t i && within c m (pos i)) from (min end ct) = rw (← gf) at (holds-both h clip-holds) in
+        run-is (λ i. t i && within c m (pos i)) from (min end ct) n to g gt
 
-    same-point : (t : ℕ → Bool) → Holds t lo end → (i : ℕ) → i < n → both (t i) (within c m (pos i)) ≡ both (leb from i) (ltb i to)
+    same-point : (t : ℕ → Bool) → Holds t lo end → (i : ℕ) → i < n → (t i && within c m (pos i)) ≡ (leb from i && ltb i to)
     same-point t h i l =
-        let g : Holds (λ k. both (t k) (within c m (pos k))) from (min end ct) = rw (← gf) at (holds-both h clip-holds) in
+        let g : Holds (λ k. t k && within c m (pos k)) from (min end ct) = rw (← gf) at (holds-both h clip-holds) in
         go g (decLt i from) (decLt i to)
       where
-        go : Holds (λ k. both (t k) (within c m (pos k))) from (min end ct) → Dec (i < from) → Dec (i < to) → both (t i) (within c m (pos i)) ≡ both (leb from i) (ltb i to)
+        go : Holds (λ k. t k && within c m (pos k)) from (min end ct) → Dec (i < from) → Dec (i < to) → (t i && within c m (pos i)) ≡ (leb from i && ltb i to)
         go g (yes a) d = g .before i a ∙ rw (lt-leb from i a) refl
         go g (no a) (yes d) = g .inside i (omega arith) (omega arith) ∙ rw (le-leb from i (omega arith), lt-ltb i to d) refl
         go g (no a) (no d) = g .past i (omega arith) ∙ rw (le-ltb i to (omega arith)) (sym (both-no (leb from i)))
@@ -203,10 +203,10 @@ module _ (lo end : ℕ) (c : ℤ) (m n : ℕ) (s : SFits w32 c) (cf ct : ℕ) (e
         let z : to - from ≡ 0 = omega arith in
         record { ordered = omega arith; held = omega arith; begins = λ h. absurd (omega arith); ends = λ h. absurd (omega arith); same = λ t h. run-zero 0 ∙ sym (run-zero from) ∙ ap (run from) (sym z) ∙ same-run t h; point = λ t h i k. same-point t h i k ∙ nowhere i }
       where
-        nowhere : (i : ℕ) → both (leb from i) (ltb i to) ≡ both (leb 0 i) (ltb i 0)
+        nowhere : (i : ℕ) → (leb from i && ltb i to) ≡ (leb 0 i && ltb i 0)
         nowhere i = neither (decLt i to) ∙ rw (le-ltb i 0 (omega arith)) (sym (both-no (leb 0 i)))
           where
-            neither : Dec (i < to) → both (leb from i) (ltb i to) ≡ false
+            neither : Dec (i < to) → (leb from i && ltb i to) ≡ false
             neither (yes h) = rw (lt-leb from i (omega arith)) refl
             neither (no h) = rw (le-ltb i to (omega arith)) (both-no (leb from i))
 

@@ -1,7 +1,7 @@
 -- Copying by chunks and rows leaves what copying all at once would.
 use mathlib.Core.Path.{_≡_, refl, sym, ap, ap₂, _∙_}
 use mathlib.Core.Bool.{Bool, true, false, cond}
-use mathlib.Core.List.{List, [], _∷_, append-nil}
+use mathlib.Core.List.{List, [], _∷_, append-nil, flatMap}
 use Prim.Native.Nat.{ℕ, zero, suc, _+_, _-_, _%_, _≤_, _<_}
 use native.Mathlib.Omega.{arith}
 use native.Mathlib.Decide.{ℕ-discrete, decLe}
@@ -15,7 +15,7 @@ use Rattle.words.proofs.Reading.{read-store}
 use Rattle.pixels.specs.declared.Canvas.{Canvas}
 use Rattle.pixels.specs.Bytes.{form, loadAt}
 use Rattle.pixels.specs.Hits.{Hit, paint}
-use Rattle.pixels.specs.Rows.{each, run, mark, marks, field, laid}
+use Rattle.pixels.specs.Rows.{run, mark, marks, field, laid}
 use Rattle.pixels.proofs.chunks.Chunks.{Taken}
 use Rattle.canvas.specs.Walk.{lowered, Sourced}
 use Rattle.images.specs.Chunks.{SeenAs, shifted}
@@ -116,14 +116,14 @@ seen-lt none w l = l
 shifted-lt : (v : Canvas) (b : List ℕ) → Bytes b → (x y sx sy i j w : ℕ) → w < range (form v) → shifted v b x y sx sy i j w < range (form v)
 shifted-lt v b o x y sx sy i j w l = seen-lt (form v) _ (load-lt v b (sx + (i - x)) (sy + (j - y)) o)
 
-one-row : (g : ℕ → List Hit) (y : ℕ) → g y ≡ each g (run y 1)
-unfolding each run
+one-row : (g : ℕ → List Hit) (y : ℕ) → g y ≡ flatMap g (run y 1)
+unfolding flatMap run
 one-row g y = sym (append-nil (g y))
 
 grown : (v : Canvas) (f : ℕ → ℕ → ℕ → ℕ) → ((x y w : ℕ) → w < range (form v) → f x y w < range (form v)) → (g : ℕ → List Hit) (b : List ℕ) → Screen v b
     → (x n : ℕ) (right : Bool) (k m at : ℕ) → k + m ≤ n → at ≡ cond right k (n - k - m)
-    → All (By v f) (each g (run (x + at) m)) → All (By v f) (each g (run (x + from-end right n k) k))
-    → paint v (each g (run (x + at) m)) (paint v (each g (run (x + from-end right n k) k)) b) ≡ paint v (each g (run (x + from-end right n (k + m)) (k + m))) b
+    → All (By v f) (flatMap g (run (x + at) m)) → All (By v f) (flatMap g (run (x + from-end right n k) k))
+    → paint v (flatMap g (run (x + at) m)) (paint v (flatMap g (run (x + from-end right n k) k)) b) ≡ paint v (flatMap g (run (x + from-end right n (k + m)) (k + m))) b
 grown v f h g b s x n true k m at l e p q =
     let z : x + at ≡ x + 0 + k = omega arith in
     rw z (join-after v g b (x + 0) k m)
@@ -131,7 +131,7 @@ grown v f h g b s x n false k m at l e p q =
     let z : x + (n - k) ≡ x + at + m = omega arith in
     let u : x + (n - (k + m)) ≡ x + at = omega arith in
     let c : k + m ≡ m + k = omega arith in
-    let q′ : All (By v f) (each g (run (x + at + m) k)) = rw z at q in
+    let q′ : All (By v f) (flatMap g (run (x + at + m) k)) = rw z at q in
     rw (z, u, c) (join-before v f h g b s (x + at) m k p q′)
 
 -- ---- a row
@@ -195,7 +195,7 @@ module _ (v : Canvas) (b₀ : List ℕ) (s : Screen v b₀) (x y sx sy n : ℕ) 
           (row-by (x + at) m (omega (arith, end))) (row-by (x + from-end right n k) k (omega (arith, begin)))
 
 pub row-none : {v : Canvas} {b₀ : List ℕ} {x y sx sy n : ℕ} {right : Bool} → Moved v b₀ x y sx sy n right 0 b₀
-unfolding run each paint
+unfolding run flatMap paint
 row-none = record { few = omega arith; same = refl }
 
 from-start : (x n k : ℕ) (r : Bool) → n ≤ k → x + from-end r n k ≡ x
@@ -271,7 +271,7 @@ module _ (v : Canvas) (b₀ : List ℕ) (s : Screen v b₀) (x y sx sy n m : ℕ
           (box-by (y + at) 1 (omega (arith, end))) (box-by (y + from-end below m k) k (omega (arith, begin)))
 
 pub rows-none : {v : Canvas} {b₀ : List ℕ} {x y sx sy n m : ℕ} {below : Bool} → Rows v b₀ x y sx sy n m below 0 b₀
-unfolding run each paint
+unfolding run flatMap paint
 rows-none = record { few = omega arith; same = refl }
 
 pub rows-all : {v : Canvas} {b₀ : List ℕ} {x y sx sy n m : ℕ} {below : Bool} {k : ℕ} {b : List ℕ} → Rows v b₀ x y sx sy n m below k b → m ≤ k
@@ -298,7 +298,7 @@ way-of x sx t e = go (decLe x sx)
 -- ---- the box of what is shown
 
 no-columns : (f : ℕ → ℕ → ℕ → ℕ) (x : ℕ) (ys : List ℕ) → field f (run x 0) ys ≡ []
-unfolding each run
+unfolding flatMap run
 no-columns f x [] = refl
 no-columns f x (y ∷ ys) = no-columns f x ys
 
@@ -306,7 +306,7 @@ pub none-across : (f : ℕ → ℕ → ℕ → ℕ) (x0 x1 : ℕ) (ys : List ℕ
 none-across f x0 x1 ys e = let z : x1 - x0 ≡ 0 = omega arith in ap (λ (n : ℕ). field f (run x0 n) ys) z ∙ no-columns f x0 ys
 
 pub none-down : (f : ℕ → ℕ → ℕ → ℕ) (y0 y1 : ℕ) (xs : List ℕ) → y0 ≡ y1 → field f xs (run y0 (y1 - y0)) ≡ []
-unfolding each run
+unfolding flatMap run
 none-down f y0 y1 xs e = let z : y1 - y0 ≡ 0 = omega arith in ap (λ (n : ℕ). field f xs (run y0 n)) z
 
 pub paint-nothing : (v : Canvas) (hs : List Hit) (b : List ℕ) → hs ≡ [] → b ≡ paint v hs b

@@ -1,7 +1,7 @@
 -- Drawing by chunks and rows leaves what drawing pixel by pixel would.
 use mathlib.Core.Path.{_≡_, refl, sym, ap, ap₂, _∙_}
 use mathlib.Core.Bool.{true, false}
-use mathlib.Core.List.{List, [], _∷_, _++_}
+use mathlib.Core.List.{List, [], _∷_, _++_, flatMap}
 use Prim.Native.Nat.{ℕ, zero, suc, _+_, _-_, _≤_, _<_}
 use native.Mathlib.Omega.{arith}
 use lib.ListN.{length, getD}
@@ -18,7 +18,7 @@ use Rattle.pixels.specs.declared.Canvas.{Canvas}
 use Rattle.pixels.specs.Bytes.{form, loadAt, storeAt}
 use Rattle.canvas.specs.Plot.{Plot, plot, Dot, dip}
 use Rattle.pixels.specs.Hits.{Hit, touch, paint}
-use Rattle.pixels.specs.Rows.{each, run, mark, marks, field, laid}
+use Rattle.pixels.specs.Rows.{run, mark, marks, field, laid}
 use Rattle.pixels.proofs.chunks.Chunks.{Taken}
 use Rattle.canvas.specs.Boxes.{spots, picture}
 use Rattle.canvas.specs.Call.{sourceColor}
@@ -34,7 +34,7 @@ use Rattle.pixels.proofs.rows.Parts.{join-after, marks-alike, field-alike}
 
 paint-values : (v : Canvas) (f g : ℕ → ℕ → ℕ → ℕ) (y : ℕ) → y < v .height → (i n : ℕ) → i + n ≤ v .width → (b : List ℕ)
     → ((k : ℕ) → i ≤ k → k < i + n → (w : ℕ) → f k y w ≡ g k y (loadAt v b k y)) → paint v (marks f (run i n) y) b ≡ paint v (marks g (run i n) y) b
-unfolding each run mark paint touch
+unfolding flatMap run mark paint touch
 paint-values v f g y h i zero l b e = refl
 paint-values v f g y h i (suc n) l b e =
     ap (λ (w : ℕ). paint v (marks f (run (suc i) n) y) (storeAt v b i y w)) (e i (omega arith) (omega arith) (loadAt v b i y))
@@ -108,7 +108,7 @@ pub record Overlaid (v s : Canvas) (image b₀ : List ℕ) (x y sx sy n k : ℕ)
   pub same : b ≡ paint v (marks (overlaid v s image x y sx sy) (run x k) y) b₀
 
 pub over-none : {v s : Canvas} {image b₀ : List ℕ} {x y sx sy n : ℕ} → Overlaid v s image b₀ x y sx sy n 0 b₀
-unfolding run each paint
+unfolding run flatMap paint
 over-none = record { few = omega arith; same = refl }
 
 pub over-more : (v s : Canvas) (image b₀ b b′ : List ℕ) (x y sx sy n k m : ℕ) → Overlaid v s image b₀ x y sx sy n k b → k + m ≤ n
@@ -150,10 +150,10 @@ unfolding dip
 dip-append g [] es = refl
 dip-append g (d ∷ ds) es = ap (λ (l : List Plot). plot (g (d .color)) (d .x) (d .y) ∷ l) (dip-append g ds es)
 
-dip-each : (g : Color → ℕ → ℕ) (h : ℕ → List Dot) (xs : List ℕ) → dip g (each h xs) ≡ each (λ x. dip g (h x)) xs
-unfolding each dip
+dip-each : (g : Color → ℕ → ℕ) (h : ℕ → List Dot) (xs : List ℕ) → dip g (flatMap h xs) ≡ flatMap (λ x. dip g (h x)) xs
+unfolding flatMap dip
 dip-each g h [] = refl
-dip-each g h (x ∷ xs) = dip-append g (h x) (each h xs) ∙ ap (λ (l : List Plot). dip g (h x) ++ l) (dip-each g h xs)
+dip-each g h (x ∷ xs) = dip-append g (h x) (flatMap h xs) ∙ ap (λ (l : List Plot). dip g (h x) ++ l) (dip-each g h xs)
 
 pub picture-spots : (g : Color → ℕ → ℕ) (c : ℕ → ℕ → Color) (xs ys : List ℕ) → dip g (picture c xs ys) ≡ spots (λ i j. g (c i j)) xs ys
 unfolding picture spots dip

@@ -1,7 +1,7 @@
 -- What lands of a sieve, which pixels its test is made at, and the sieves of pies and round fills.
 use mathlib.Core.Path.{_≡_, refl, sym, ap, ap₂, _∙_}
-use mathlib.Core.Bool.{Bool, true, false, cond, _||_}
-use mathlib.Core.List.{List, [], _∷_}
+use mathlib.Core.Bool.{Bool, true, false, cond, _||_, _&&_}
+use mathlib.Core.List.{List, [], _∷_, flatMap}
 use Prim.Native.Nat.{ℕ, suc, _+_, _-_, _≤_, _<_}
 use native.Mathlib.Omega.{arith}
 use native.Mathlib.Decide.{decLt}
@@ -29,9 +29,9 @@ use Rattle.canvas.specs.declared.Clip.{Clip}
 use Rattle.ovals.specs.Faults.{Shaped}
 use Rattle.canvas.specs.Plot.{Point, at, Plot, inks, hits}
 use Rattle.pixels.specs.Hits.{Hit}
-use Rattle.canvas.specs.Clip.{both, within}
+use Rattle.canvas.specs.Clip.{within}
 use Rattle.canvas.specs.Boxes.{side, fill}
-use Rattle.pixels.specs.Rows.{each, run, mark, flat}
+use Rattle.pixels.specs.Rows.{run, mark, flat}
 use Rattle.ovals.specs.Curves.{sieve, pie, roundFill}
 use Rattle.canvas.specs.Walk.{lowered, Cut, Work, Fits, Ready, Did}
 use Rattle.ovals.specs.Sift.{sift, sifted, land, AskedAt, AskedIn}
@@ -49,7 +49,7 @@ module _ (v : Canvas) (c : Clip) (t : ℕ → ℕ → Bool) (f : ℕ → ℕ) wh
   pixel i j = inks f (cond (t i j) (at (pos i) (pos j) ∷ []) [])
 
   pixel-hit : (i j : ℕ) → i < v .width → j < v .height
-      → hits v c (pixel i j) ≡ cond (both (within (c .x) (c .width) (pos i)) (within (c .y) (c .height) (pos j))) (sift t f j i) []
+      → hits v c (pixel i j) ≡ cond (within (c .x) (c .width) (pos i) && within (c .y) (c .height) (pos j)) (sift t f j i) []
   unfolding sift inks hits
   pixel-hit i j hi hj = go (t i j)
     where
@@ -58,9 +58,9 @@ module _ (v : Canvas) (c : Clip) (t : ℕ → ℕ → Bool) (f : ℕ → ℕ) wh
       none false = refl
 
       go : (a : Bool) → hits v c (inks f (cond a (at (pos i) (pos j) ∷ []) []))
-          ≡ cond (both (within (c .x) (c .width) (pos i)) (within (c .y) (c .height) (pos j))) (cond a (mark (flat f) j i) []) []
+          ≡ cond (within (c .x) (c .width) (pos i) && within (c .y) (c .height) (pos j)) (cond a (mark (flat f) j i) []) []
       go true = spot-hit v c (flat f) i j hi hj
-      go false = none (both (within (c .x) (c .width) (pos i)) (within (c .y) (c .height) (pos j)))
+      go false = none (within (c .x) (c .width) (pos i) && within (c .y) (c .height) (pos j))
 
   -- the overlap that the code walks
   module _ (p q w h : ℕ) (s : SFits w32 (c .x)) (r : SFits w32 (c .y)) (x0 x1 y0 y1 : ℕ)
@@ -70,7 +70,7 @@ module _ (v : Canvas) (c : Clip) (t : ℕ → ℕ → Bool) (f : ℕ → ℕ) wh
     unfolding sieve
     sieve-hits =
         ap (hits v c)
-        (inks-each f _ (λ j. each (λ i. pixel i j) (side (lowered p) w (v .width))) (side (lowered q) h (v .height))
+        (inks-each f _ (λ j. flatMap (λ i. pixel i j) (side (lowered p) w (v .width))) (side (lowered q) h (v .height))
         (λ j. inks-each f (λ i. cond (t i j) (at (pos i) (pos j) ∷ []) []) (λ i. pixel i j) (side (lowered p) w (v .width)) (λ i. refl)))
         ∙ pixels-hits v c pixel (λ i j. sift t f j i) pixel-hit (λ i. within (lowered p) w (pos i)) (λ j. within (lowered q) h (pos j))
         ∙ ap₂ (λ (l m : List ℕ). sifted t f l m) (sym (cut-run p w (c .x) (c .width) (v .width) x0 x1 s xs)) (sym (cut-run q h (c .y) (c .height) (v .height) y0 y1 r ys))
@@ -108,7 +108,7 @@ inside : (x : ℤ) (w i : ℕ) → natAbs x ≤ 32768 → w ≤ 32767 → i ≤ 
 unfolding within
 inside x w i l m n e = let k = both-are (leZ x (pos i)) (ltZ (pos i) (x +ℤ pos w)) e in record { corner = l; side = m; place = n; from = k .0; to = k .1 }
   where
-    both-are : (a b : Bool) → both a b ≡ true → (a ≡ true) × (b ≡ true)
+    both-are : (a b : Bool) → (a && b) ≡ true → (a ≡ true) × (b ≡ true)
     both-are true b e = (refl, e)
     both-are false b e = absurd (let z : _≡_ {A = ℕ} 0 1 = cc in omega arith)
 

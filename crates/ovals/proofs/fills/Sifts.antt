@@ -1,7 +1,7 @@
 -- Rows and boxes of pixels that pass a test: the invariant of the loops over them, and what lands of a sieve.
 use mathlib.Core.Path.{_≡_, refl, sym, ap, ap₂, _∙_}
 use mathlib.Core.Bool.{Bool, true, false}
-use mathlib.Core.List.{List, [], _++_}
+use mathlib.Core.List.{List, [], _++_, flatMap}
 use Prim.Native.Nat.{ℕ, zero, suc, _+_, _-_, _≤_, _<_}
 use native.Mathlib.Omega.{arith}
 use native.Mathlib.Decide.{decLt}
@@ -13,7 +13,7 @@ use Rattle.pixels.specs.declared.Canvas.{Canvas}
 use Rattle.canvas.specs.declared.Tally.{Tally}
 use Rattle.pixels.specs.Bytes.{Sized}
 use Rattle.pixels.specs.Hits.{Hit, paint}
-use Rattle.pixels.specs.Rows.{each, run, marks, flat}
+use Rattle.pixels.specs.Rows.{run, marks, flat}
 use Rattle.canvas.specs.Walk.{plus, Work, work, Fits}
 use Rattle.ovals.specs.Sift.{sift, sifts, land}
 use Rattle.pixels.proofs.bytes.Pixels.{sized-length}
@@ -64,14 +64,14 @@ left-room {v} {hs} {hs₀} {w} {w₀} ks ls r e f = omega (arith, f, left-count 
 
 -- ---- a row's runs
 
-cut-at : {A : Type 0} (g : ℕ → List A) (x e x1 : ℕ) → x ≤ e → e ≤ x1 → each g (run x (x1 - x)) ≡ each g (run x (e - x)) ++ each g (run e (x1 - e))
+cut-at : {A : Type 0} (g : ℕ → List A) (x e x1 : ℕ) → x ≤ e → e ≤ x1 → flatMap g (run x (x1 - x)) ≡ flatMap g (run x (e - x)) ++ flatMap g (run e (x1 - e))
 cut-at g x e x1 h k =
     let p : x1 - x ≡ (e - x) + (x1 - e) = omega arith in
     let q : x + (e - x) ≡ e = omega arith in
-    ap (λ (n : ℕ). each g (run x n)) p ∙ parts g x (e - x) (x1 - e) ∙ ap (λ (i : ℕ). each g (run x (e - x)) ++ each g (run i (x1 - e))) q
+    ap (λ (n : ℕ). flatMap g (run x n)) p ∙ parts g x (e - x) (x1 - e) ∙ ap (λ (i : ℕ). flatMap g (run x (e - x)) ++ flatMap g (run i (x1 - e))) q
 
-each-none : {A : Type 0} (g : ℕ → List A) (x n : ℕ) → ((k : ℕ) → x ≤ k → k < x + n → g k ≡ []) → each g (run x n) ≡ []
-unfolding each run
+each-none : {A : Type 0} (g : ℕ → List A) (x n : ℕ) → ((k : ℕ) → x ≤ k → k < x + n → g k ≡ []) → flatMap g (run x n) ≡ []
+unfolding flatMap run
 each-none g x zero e = refl
 each-none g x (suc n) e = ap₂ (λ (l m : List _). l ++ m) (e x (omega arith) (omega arith)) (each-none g (suc x) n (λ k l m. e k (omega arith) (omega arith)))
 
@@ -117,7 +117,7 @@ module _ (t : ℕ → ℕ → Bool) (f : ℕ → ℕ) (y x x1 a e : ℕ) (p : Ne
 -- what the numbers from x on give is left, of what those from x₀ on give
 pub record Going (v : Canvas) (g : ℕ → List Hit) (x₀ x x1 : ℕ) (w w₀ : Work) : Type 0 where
   pub from : x₀ ≤ x
-  pub left : Left v (each g (run x (x1 - x))) w (each g (run x₀ (x1 - x₀))) w₀
+  pub left : Left v (flatMap g (run x (x1 - x))) w (flatMap g (run x₀ (x1 - x₀))) w₀
 
 pub asked-later : (s : Region) (t : List ℕ) (j x x′ x1 : ℕ) → x ≤ x′ → Asked s t j x x1 → Asked s t j x′ x1
 asked-later (Sector p) t j x x′ x1 l a = record { table = a .table; apt = λ i m n. a .apt i (omega arith) n }
@@ -125,17 +125,17 @@ asked-later (Rounded c) t j x x′ x1 l a = a
 
 -- ---- a box's rows
 
-module _ (v : Canvas) (g : ℕ → List Hit) (y y1 : ℕ) {hs₀ : List Hit} {w w₀ : Work} (r : Left v (each g (run y (y1 - y))) w hs₀ w₀) where
-  first : y < y1 → each g (run y (y1 - y)) ≡ g y ++ each g (run (y + 1) (y1 - (y + 1)))
-  unfolding each
-  first h = ap (each g) (run-step y y1 h)
+module _ (v : Canvas) (g : ℕ → List Hit) (y y1 : ℕ) {hs₀ : List Hit} {w w₀ : Work} (r : Left v (flatMap g (run y (y1 - y))) w hs₀ w₀) where
+  first : y < y1 → flatMap g (run y (y1 - y)) ≡ g y ++ flatMap g (run (y + 1) (y1 - (y + 1)))
+  unfolding flatMap
+  first h = ap (flatMap g) (run-step y y1 h)
 
   pub rows-room : y < y1 → Fits (land v hs₀ w₀ .tally) → Fits (land v (g y) w .tally)
-  rows-room h k = left-room (g y) (each g (run (y + 1) (y1 - (y + 1)))) r (first h) k
+  rows-room h k = left-room (g y) (flatMap g (run (y + 1) (y1 - (y + 1)))) r (first h) k
 
-  pub rows-turn : y < y1 → (w′ : Work) → w′ ≡ land v (g y) w → Left v (each g (run (y + 1) (y1 - (y + 1)))) w′ hs₀ w₀
-  rows-turn h w′ e = left-step (g y) (each g (run (y + 1) (y1 - (y + 1)))) w′ r (first h) e
+  pub rows-turn : y < y1 → (w′ : Work) → w′ ≡ land v (g y) w → Left v (flatMap g (run (y + 1) (y1 - (y + 1)))) w′ hs₀ w₀
+  rows-turn h w′ e = left-step (g y) (flatMap g (run (y + 1) (y1 - (y + 1)))) w′ r (first h) e
 
   pub rows-end : y1 ≤ y → w ≡ land v hs₀ w₀
-  unfolding each
-  rows-end h = left-end r (ap (each g) (run-none y y1 h))
+  unfolding flatMap
+  rows-end h = left-end r (ap (flatMap g) (run-none y y1 h))

@@ -1,6 +1,6 @@
 -- Parts of rows and boxes of hits: joined at either end, alike where their inks are, and what they leave of other pixels.
 use mathlib.Core.Path.{_≡_, refl, sym, ap, ap₂, _∙_}
-use mathlib.Core.List.{List, [], _∷_, _++_, append-assoc, List·Permᴰ·append-comm}
+use mathlib.Core.List.{List, [], _∷_, _++_, append-assoc, List·Permᴰ·append-comm, flatMap}
 use Prim.Native.Nat.{ℕ, zero, suc, _+_, _≤_, _<_}
 use native.Mathlib.Omega.{arith}
 use native.Mathlib.Nat.{zero-add, add-zero, suc-add}
@@ -8,7 +8,7 @@ use Rattle.words.specs.Format.{range}
 use Rattle.pixels.specs.declared.Canvas.{Canvas}
 use Rattle.pixels.specs.Bytes.{form, loadAt, On}
 use Rattle.pixels.specs.Hits.{Hit, hit, touch, paint}
-use Rattle.pixels.specs.Rows.{each, run, mark, marks, field}
+use Rattle.pixels.specs.Rows.{run, mark, marks, field}
 use Rattle.pixels.proofs.bytes.Pixels.{Other, load-other}
 use Rattle.pixels.proofs.Orders.{Screen, All, none, also, all-append, paint-perm, By, by-pixel}
 use Rattle.pixels.proofs.Hits.{paint-append}
@@ -20,21 +20,21 @@ unfolding run
 run-append i zero n = rw (zero-add, add-zero) refl
 run-append i (suc m) n = let e : i + suc m ≡ suc i + m = omega arith in rw (suc-add m n, e) (ap (λ (l : List ℕ). i ∷ l) (run-append (suc i) m n))
 
-each-append : {A : Type 0} (g : ℕ → List A) (xs ys : List ℕ) → each g (xs ++ ys) ≡ each g xs ++ each g ys
-unfolding each
+each-append : {A : Type 0} (g : ℕ → List A) (xs ys : List ℕ) → flatMap g (xs ++ ys) ≡ flatMap g xs ++ flatMap g ys
+unfolding flatMap
 each-append g [] ys = refl
-each-append g (x ∷ xs) ys = ap (λ (l : List _). g x ++ l) (each-append g xs ys) ∙ sym (append-assoc (g x) (each g xs) (each g ys))
+each-append g (x ∷ xs) ys = ap (λ (l : List _). g x ++ l) (each-append g xs ys) ∙ sym (append-assoc (g x) (flatMap g xs) (flatMap g ys))
 
-pub parts : {A : Type 0} (g : ℕ → List A) (i m n : ℕ) → each g (run i (m + n)) ≡ each g (run i m) ++ each g (run (i + m) n)
-parts g i m n = ap (each g) (run-append i m n) ∙ each-append g (run i m) (run (i + m) n)
+pub parts : {A : Type 0} (g : ℕ → List A) (i m n : ℕ) → flatMap g (run i (m + n)) ≡ flatMap g (run i m) ++ flatMap g (run (i + m) n)
+parts g i m n = ap (flatMap g) (run-append i m n) ∙ each-append g (run i m) (run (i + m) n)
 
-pub join-after : (v : Canvas) (g : ℕ → List Hit) (b : List ℕ) (i m n : ℕ) → paint v (each g (run (i + m) n)) (paint v (each g (run i m)) b) ≡ paint v (each g (run i (m + n))) b
-join-after v g b i m n = sym (paint-append v (each g (run i m)) (each g (run (i + m) n)) b) ∙ ap (λ (hs : List Hit). paint v hs b) (sym (parts g i m n))
+pub join-after : (v : Canvas) (g : ℕ → List Hit) (b : List ℕ) (i m n : ℕ) → paint v (flatMap g (run (i + m) n)) (paint v (flatMap g (run i m)) b) ≡ paint v (flatMap g (run i (m + n))) b
+join-after v g b i m n = sym (paint-append v (flatMap g (run i m)) (flatMap g (run (i + m) n)) b) ∙ ap (λ (hs : List Hit). paint v hs b) (sym (parts g i m n))
 
 -- ---- what holds of each hit
 
-run-all : (P : Hit → Type 0) (g : ℕ → List Hit) (i n : ℕ) → ((k : ℕ) → i ≤ k → k < i + n → All P (g k)) → All P (each g (run i n))
-unfolding each run
+run-all : (P : Hit → Type 0) (g : ℕ → List Hit) (i n : ℕ) → ((k : ℕ) → i ≤ k → k < i + n → All P (g k)) → All P (flatMap g (run i n))
+unfolding flatMap run
 run-all P g i zero h = none
 run-all P g i (suc n) h = all-append (h i (omega arith) (omega arith)) (run-all P g (suc i) n (λ k l m. h k (omega arith) (omega arith)))
 
@@ -47,17 +47,17 @@ field-all P f x n y m h = run-all P (marks f (run x n)) y m (λ j l k. marks-all
 
 -- inks of the pixel alone may be painted in any order
 pub join-before : (v : Canvas) (f : ℕ → ℕ → ℕ → ℕ) → ((x y w : ℕ) → w < range (form v) → f x y w < range (form v))
-    → (g : ℕ → List Hit) (b : List ℕ) → Screen v b → (i m n : ℕ) → All (By v f) (each g (run i m)) → All (By v f) (each g (run (i + m) n))
-    → paint v (each g (run i m)) (paint v (each g (run (i + m) n)) b) ≡ paint v (each g (run i (m + n))) b
+    → (g : ℕ → List Hit) (b : List ℕ) → Screen v b → (i m n : ℕ) → All (By v f) (flatMap g (run i m)) → All (By v f) (flatMap g (run (i + m) n))
+    → paint v (flatMap g (run i m)) (paint v (flatMap g (run (i + m) n)) b) ≡ paint v (flatMap g (run i (m + n))) b
 join-before v f k g b s i m n p q =
-    sym (paint-append v (each g (run (i + m) n)) (each g (run i m)) b)
-    ∙ paint-perm v (By v f) (by-pixel v f k) b (List·Permᴰ·append-comm (each g (run (i + m) n)) (each g (run i m))) s (all-append q p)
+    sym (paint-append v (flatMap g (run (i + m) n)) (flatMap g (run i m)) b)
+    ∙ paint-perm v (By v f) (by-pixel v f k) b (List·Permᴰ·append-comm (flatMap g (run (i + m) n)) (flatMap g (run i m))) s (all-append q p)
     ∙ ap (λ (hs : List Hit). paint v hs b) (sym (parts g i m n))
 
 -- ---- inks that are alike on the part
 
-pub run-alike : {A : Type 0} (g h : ℕ → List A) (i n : ℕ) → ((k : ℕ) → i ≤ k → k < i + n → g k ≡ h k) → each g (run i n) ≡ each h (run i n)
-unfolding each run
+pub run-alike : {A : Type 0} (g h : ℕ → List A) (i n : ℕ) → ((k : ℕ) → i ≤ k → k < i + n → g k ≡ h k) → flatMap g (run i n) ≡ flatMap h (run i n)
+unfolding flatMap run
 run-alike g h i zero e = refl
 run-alike g h i (suc n) e = ap₂ (λ (l m : List _). l ++ m) (e i (omega arith) (omega arith)) (run-alike g h (suc i) n (λ k l m. e k (omega arith) (omega arith)))
 

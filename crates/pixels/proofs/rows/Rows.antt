@@ -1,6 +1,6 @@
 -- Rows and boxes of hits: the invariant of every loop over them, and how many they are.
 use mathlib.Core.Path.{_≡_, refl, sym, ap, ap₂, _∙_}
-use mathlib.Core.List.{List, [], _∷_, _++_}
+use mathlib.Core.List.{List, [], _∷_, _++_, flatMap}
 use Prim.Native.Nat.{ℕ, zero, suc, _+_, _*_, _-_, _≤_, _<_}
 use native.Mathlib.Omega.{arith}
 use native.Mathlib.Nat.{suc-mul, zero-mul}
@@ -9,7 +9,7 @@ use lib.ListN.{length, length-append}
 use Rattle.pixels.specs.declared.Canvas.{Canvas}
 use Rattle.pixels.specs.Bytes.{size, On, Sized}
 use Rattle.pixels.specs.Hits.{Hit, paint}
-use Rattle.pixels.specs.Rows.{each, run, mark, marks, field, flat, Touched}
+use Rattle.pixels.specs.Rows.{run, mark, marks, field, flat, Touched}
 use Rattle.pixels.proofs.bytes.Pixels.{sized-length}
 use Rattle.pixels.proofs.bytes.Places.{in-place, touch-is}
 use Rattle.pixels.proofs.Hits.{paint-length, paint-append}
@@ -36,15 +36,15 @@ pub run-none : (i j : ℕ) → j ≤ i → run i (j - i) ≡ []
 unfolding run
 run-none i j h = let e : j - i ≡ 0 = omega arith in rw e refl
 
-module _ (v : Canvas) (g : ℕ → List Hit) (x x1 : ℕ) {hs₀ : List Hit} {b b₀ : List ℕ} (r : Rest v (each g (run x (x1 - x))) b hs₀ b₀) where
-  pub rest-turn : {b′ : List ℕ} → x < x1 → b′ ≡ paint v (g x) b → Rest v (each g (run (x + 1) (x1 - (x + 1)))) b′ hs₀ b₀
-  unfolding each
+module _ (v : Canvas) (g : ℕ → List Hit) (x x1 : ℕ) {hs₀ : List Hit} {b b₀ : List ℕ} (r : Rest v (flatMap g (run x (x1 - x))) b hs₀ b₀) where
+  pub rest-turn : {b′ : List ℕ} → x < x1 → b′ ≡ paint v (g x) b → Rest v (flatMap g (run (x + 1) (x1 - (x + 1)))) b′ hs₀ b₀
+  unfolding flatMap
   rest-turn h e =
-      let tail : List Hit = each g (run (x + 1) (x1 - (x + 1))) in
-      record { same = ap (paint v tail) e ∙ sym (paint-append v (g x) tail b) ∙ sym (ap (λ (l : List ℕ). paint v (each g l) b) (run-step x x1 h)) ∙ r .same }
+      let tail : List Hit = flatMap g (run (x + 1) (x1 - (x + 1))) in
+      record { same = ap (paint v tail) e ∙ sym (paint-append v (g x) tail b) ∙ sym (ap (λ (l : List ℕ). paint v (flatMap g l) b) (run-step x x1 h)) ∙ r .same }
 
   pub rest-end : x1 ≤ x → b ≡ paint v hs₀ b₀
-  unfolding each paint
+  unfolding flatMap paint
   rest-end h = rw (run-none x x1 h) at (r .same)
 
 -- ---- one pixel of a row, of s bytes
@@ -59,8 +59,8 @@ module _ (v : Canvas) (b : List ℕ) (x y o s : ℕ) (r : Sized v b) (p : On v x
 
 -- ---- what each number gives, alike for each
 
-pub each-same : {A : Type 0} (g h : ℕ → List A) (xs : List ℕ) → ((x : ℕ) → g x ≡ h x) → each g xs ≡ each h xs
-unfolding each
+pub each-same : {A : Type 0} (g h : ℕ → List A) (xs : List ℕ) → ((x : ℕ) → g x ≡ h x) → flatMap g xs ≡ flatMap h xs
+unfolding flatMap
 each-same g h [] e = refl
 each-same g h (x ∷ xs) e = ap₂ (λ (l m : List _). l ++ m) (e x) (each-same g h xs e)
 
@@ -71,10 +71,10 @@ unfolding run
 run-length i zero = refl
 run-length i (suc n) = ap suc (run-length (suc i) n)
 
-each-length : {A : Type 0} (g : ℕ → List A) (k : ℕ) (xs : List ℕ) → ((x : ℕ) → length (g x) ≡ k) → length (each g xs) ≡ length xs * k
-unfolding each
+each-length : {A : Type 0} (g : ℕ → List A) (k : ℕ) (xs : List ℕ) → ((x : ℕ) → length (g x) ≡ k) → length (flatMap g xs) ≡ length xs * k
+unfolding flatMap
 each-length g k [] h = sym (zero-mul k)
-each-length g k (x ∷ xs) h = omega (arith, length-append (g x) (each g xs), h x, each-length g k xs h, suc-mul (length xs) k)
+each-length g k (x ∷ xs) h = omega (arith, length-append (g x) (flatMap g xs), h x, each-length g k xs h, suc-mul (length xs) k)
 
 pub marks-length : (f : ℕ → ℕ → ℕ → ℕ) (x m y : ℕ) → length (marks f (run x m) y) ≡ m
 unfolding mark

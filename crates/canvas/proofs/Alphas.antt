@@ -1,7 +1,7 @@
 -- Where words keep alpha, a second pass leaves the first colours: alpha is 255 exactly where a plot of an alpha other than
 -- 0 landed, and the first alpha elsewhere. By the word at each pixel, hit after hit and call after call.
 use mathlib.Core.Path.{_≡_, refl, ap, _∙_}
-use mathlib.Core.Bool.{Bool, true, false, cond}
+use mathlib.Core.Bool.{Bool, true, false, cond, _&&_, _||_}
 use mathlib.Core.List.{List, [], _∷_, _++_, map, List·Permᴰ}
 use Prim.Native.Nat.{ℕ, _+_, _%_, _<_}
 use native.Mathlib.Omega.{arith}
@@ -17,12 +17,11 @@ use Rattle.canvas.specs.declared.Clip.{Clip}
 use Rattle.canvas.specs.declared.faults.Verdict.{Verdict}
 use Rattle.canvas.specs.declared.faults.Verdict.the-variants.{Sound, Faulty}
 use Rattle.pixels.specs.Bytes.{form, loadAt, storeAt, On}
-use Rattle.canvas.specs.Clip.{both}
 use Rattle.canvas.specs.Faults.{verdict}
 use Rattle.canvas.specs.Plot.{plot, Dot, dip, Fate, landed, outside, clipped, fate, hitOf, keep, hits}
 use Rattle.pixels.specs.Hits.{Hit, touch, paint}
 use Rattle.canvas.specs.Call.{Call, clipOf, faultOf, dots, brush, plots}
-use Rattle.canvas.specs.Calls.{after, unless, landing, struck, visible, veiled}
+use Rattle.canvas.specs.Calls.{after, unless, landing, struck, visible, madeSolid}
 use Rattle.pixels.proofs.bytes.Pixels.{load-lt, load-store, load-other}
 use Rattle.pixels.proofs.Orders.{Screen, paint-screen, doubled}
 use Rattle.pixels.proofs.Hits.{paint-append}
@@ -44,12 +43,12 @@ module _ (v : Canvas) (x y : ℕ) (o : On v x y) where
 
   -- one hit, on the pixel or off it
   strike : (b : List ℕ) (h : Hit) → Screen v b → On v (h .x) (h .y) → ((w : ℕ) → w < range (form v) → h .ink w < range (form v))
-      → word (touch v b h) ≡ cond (both (eqb (h .x) x) (eqb (h .y) y)) (h .ink (word b)) (word b)
+      → word (touch v b h) ≡ cond (eqb (h .x) x && eqb (h .y) y) (h .ink (word b)) (word b)
   unfolding touch
   strike b h s on keeps = go (ℕ-discrete (h .x) x) (ℕ-discrete (h .y) y)
     where
       go : Dec (h .x ≡ x) → Dec (h .y ≡ y)
-          → word (storeAt v b (h .x) (h .y) (h .ink (loadAt v b (h .x) (h .y)))) ≡ cond (both (eqb (h .x) x) (eqb (h .y) y)) (h .ink (word b)) (word b)
+          → word (storeAt v b (h .x) (h .y) (h .ink (loadAt v b (h .x) (h .y)))) ≡ cond (eqb (h .x) x && eqb (h .y) y) (h .ink (word b)) (word b)
       go (yes e) (yes f) =
           rw (eq-eqb (h .x) x e, eq-eqb (h .y) y f, e, f) (load-store v b (s .long) x y (h .ink (word b)) o (keeps _ (load-lt v b x y (s .bytes))))
       go (yes e) (no n) = rw (eq-eqb (h .x) x e, ne-eqb (h .y) y n) (load-other v b (h .x) (h .y) _ x y on o (λ p q. n q))
@@ -64,12 +63,12 @@ module _ (v : Canvas) (x y : ℕ) (o : On v x y) where
 
   -- one hit made twice, whose colour has alpha 0 or not
   struck-twice : keepsAlpha (form v) ≡ true → (b : List ℕ) (h : Hit) (q : Xored v h) (z : Bool) → eqb (q .color .a) 0 ≡ z → Screen v b
-      → word (touch v b (twice h)) ≡ cond (both (eqb (h .x) x) (eqb (h .y) y)) (cond z (word b) (solid (word b))) (word b)
+      → word (touch v b (twice h)) ≡ cond (eqb (h .x) x && eqb (h .y) y) (cond z (word b) (solid (word b))) (word b)
   struck-twice a b h q z e s =
       strike b (twice h) s (q .on) (twice-keeps h q)
-      ∙ ap (λ (k : ℕ). cond (both (eqb (h .x) x) (eqb (h .y) y)) k (word b)) (twice-ink h q a (word b) ∙ ap (λ (t : Bool). cond t (word b) (solid (word b))) e)
+      ∙ ap (λ (k : ℕ). cond (eqb (h .x) x && eqb (h .y) y) k (word b)) (twice-ink h q a (word b) ∙ ap (λ (t : Bool). cond t (word b) (solid (word b))) e)
 
-  by-hit : (t u : Bool) (w : ℕ) → cond u (solid (cond t (solid w) w)) (cond t (solid w) w) ≡ cond (cond t true u) (solid w) w
+  by-hit : (t u : Bool) (w : ℕ) → cond u (solid (cond t (solid w) w)) (cond t (solid w) w) ≡ cond (t || u) (solid w) w
   by-hit true true w = solid-twice w
   by-hit true false w = refl
   by-hit false u w = refl
@@ -92,12 +91,12 @@ module _ (v : Canvas) (x y : ℕ) (o : On v x y) where
       go landed e true ez rest =
           let h : Hit = hitOf (plot (brush v k (d .color)) (d .x) (d .y)) in
           let q : Xored v h = one-xored c d sh e in
-          let g : word (touch v b (twice h)) ≡ word b = struck-twice a b h q true (sh .alike ∙ ez) s ∙ same-word (both (eqb (h .x) x) (eqb (h .y) y)) (word b) in
+          let g : word (touch v b (twice h)) ≡ word b = struck-twice a b h q true (sh .alike ∙ ez) s ∙ same-word (eqb (h .x) x && eqb (h .y) y) (word b) in
           rest (touch v b (twice h)) (paint-screen (twice h ∷ []) s) ∙ ap (λ (w : ℕ). cond (struck (hits v c (dip (brush v k) (visible ds))) x y) (solid w) w) g
       go landed e false ez rest =
           let h : Hit = hitOf (plot (brush v k (d .color)) (d .x) (d .y)) in
           let q : Xored v h = one-xored c d sh e in
-          let t : Bool = both (eqb (h .x) x) (eqb (h .y) y) in
+          let t : Bool = (eqb (h .x) x && eqb (h .y) y) in
           let g : word (touch v b (twice h)) ≡ cond t (solid (word b)) (word b) = struck-twice a b h q false (sh .alike ∙ ez) s in
           rest (touch v b (twice h)) (paint-screen (twice h ∷ []) s)
           ∙ ap (λ (w : ℕ). cond (struck (hits v c (dip (brush v k) (visible ds))) x y) (solid w) w) g ∙ by-hit t (struck (hits v c (dip (brush v k) (visible ds))) x y) (word b) ∙ rw e refl
@@ -121,8 +120,8 @@ module _ (v : Canvas) (x y : ℕ) (o : On v x y) where
   map-append [] ks = refl
   map-append (h ∷ hs) ks = ap (λ (l : List Hit). twice h ∷ l) (map-append hs ks)
 
-  by-calls : keepsAlpha (form v) ≡ true → v .xor ≡ true → (ks : List Call) (b : List ℕ) → Screen v b → Fine ks → word (paint v (map twice (all-hits v ks)) b) ≡ cond (veiled v ks x y) (solid (word b)) (word b)
-  unfolding all-hits veiled paint
+  by-calls : keepsAlpha (form v) ≡ true → v .xor ≡ true → (ks : List Call) (b : List ℕ) → Screen v b → Fine ks → word (paint v (map twice (all-hits v ks)) b) ≡ cond (madeSolid v ks x y) (solid (word b)) (word b)
+  unfolding all-hits madeSolid paint
   by-calls a xo [] b s end = refl
   by-calls a xo (k ∷ ks) b s (then ch cs) =
       let hs : List Hit = landing v k (dots v k) in
@@ -130,11 +129,11 @@ module _ (v : Canvas) (x y : ℕ) (o : On v x y) where
       ap (λ (l : List Hit). word (paint v l b)) (map-append hs (all-hits v ks))
       ∙ ap word (paint-append v (map twice hs) (map twice (all-hits v ks)) b)
       ∙ by-calls a xo ks b′ (paint-screen (map twice hs) s) cs
-      ∙ ap (λ (w : ℕ). cond (veiled v ks x y) (solid w) w) (by-call a xo k b s ch)
-      ∙ by-hit (struck (landing v k (visible (dots v k))) x y) (veiled v ks x y) (word b)
+      ∙ ap (λ (w : ℕ). cond (madeSolid v ks x y) (solid w) w) (by-call a xo k b s ch)
+      ∙ by-hit (struck (landing v k (visible (dots v k))) x y) (madeSolid v ks x y) (word b)
 
 -- on a canvas that is not refused, calls, accepted or refused, made and made again in any order: the word at every pixel
 pub colors-back : (v : Canvas) (ks ls : List Call) (b : List ℕ) → v .xor ≡ true → keepsAlpha (form v) ≡ true → Screen v b → verdict v (length b) ≡ Sound → Fine ks → List·Permᴰ ks ls
-    → (x y : ℕ) → On v x y → loadAt v (after v (ks ++ ls) b) x y ≡ cond (veiled v ks x y) (solid (loadAt v b x y)) (loadAt v b x y)
+    → (x y : ℕ) → On v x y → loadAt v (after v (ks ++ ls) b) x y ≡ cond (madeSolid v ks x y) (solid (loadAt v b x y)) (loadAt v b x y)
 colors-back v ks ls b xo a s e f p x y o =
     ap (λ (c : List ℕ). loadAt v c x y) (made-again v ks ls b xo s e f p) ∙ by-calls v x y o a xo ks b s f
