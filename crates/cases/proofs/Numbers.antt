@@ -10,10 +10,11 @@ use native.Mathlib.Omega.{arith}
 use lib.Dec.{T, leb, eqb}
 use lib.ListN.{length, getD}
 use borrow.Author.Tests.{le-leb, lt-leb, eq-eqb, ne-eqb, leb-true, eqb-false, not-true}
+use Rattle.words.proofs.Either.{both}
 use Rattle.cases.specs.Line.{Left, words, lost, Value, value, none, Got, got, after, next, firstOf}
 use Rattle.cases.specs.Place.{leftAt, wordEnds, oneLetter, oneDigit}
 use Rattle.cases.specs.Number.{accepts, digits, natural, minus, negative, numberOf, negativeOf, signedOf, letters}
-use Rattle.cases.proofs.Reading.{letter, nothing, alike, refused, short, empty, barred, each, end-within, word-end, no-end, first-found, first-missed}
+use Rattle.cases.proofs.Reading.{letter, nothing, alike, refused, short, empty, barred, end-within, word-end, no-end, first-found, first-missed}
 
 -- What the code takes a byte for: a digit, or more than 9.
 accepted-by : (most v b : ℕ) → b < 256 → Dec (48 ≤ b) → Dec (b ≤ 57)
@@ -112,7 +113,7 @@ module _ (most at v i : ℕ) (line : List ℕ) (l : at ≤ i) (z : i ≡ at → 
   module _ (o : Bool) (w : o ≡ wordEnds line i) where
     pub number-end : (not (eqb i at) && o) ≡ true → (i ≤ length line) × (next 0 (natural most) (leftAt line at) ≡ after 0 (digits most v []) (leftAt line (i + 1)))
     number-end t =
-        let q = each (not (eqb i at)) o t in
+        let q = both (not (eqb i at)) o t in
         let n : i ≡ at → ⊥ = eqb-false i at (not-true (eqb i at) (q .0)) in
         (end-within line i (sym w ∙ q .1), e (omega (arith, l, n)) ∙ word-end line i 0 (digits most v) (sym w ∙ q .1))
 
@@ -135,8 +136,8 @@ module _ (v : ℕ) (line : List ℕ) (i : ℕ) where
   letter-by (yes l) t = absurd (subst T (sym (rw (le-leb (length line) i l) at t)) tt)
   letter-by (no n) t =
       let l : i < length line = lt-of-not-le n in
-      let o = each (not (eqb (getD line i 0) 32) && not (eqb (getD line i 0) 0)) (leb v 281474976710655) (rw (lt-leb (length line) i l) at t) in
-      let p = each (not (eqb (getD line i 0) 32)) (not (eqb (getD line i 0) 0)) (o .0) in (
+      let o = both (not (eqb (getD line i 0) 32) && not (eqb (getD line i 0) 0)) (leb v 281474976710655) (rw (lt-leb (length line) i l) at t) in
+      let p = both (not (eqb (getD line i 0) 32)) (not (eqb (getD line i 0) 0)) (o .0) in (
         l,
         eqb-false (getD line i 0) 32 (not-true (eqb (getD line i 0) 32) (p .0)),
         eqb-false (getD line i 0) 0 (not-true (eqb (getD line i 0) 0) (p .1)),

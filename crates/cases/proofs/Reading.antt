@@ -1,14 +1,14 @@
 -- Reading by index is reading by words: a letter goes over to the rule, a space or the line's end closes the word.
-use mathlib.Core.Bool.{Bool, true, false, cond, _&&_}
+use mathlib.Core.Bool.{Bool, true, false, cond}
 use mathlib.Core.List.{List, [], _∷_}
-use mathlib.Core.Path.{_≡_, refl, sym, _∙_, ap, subst}
+use mathlib.Core.Path.{_≡_, refl, sym, _∙_, ap}
 use mathlib.Core.Logic.{_⊎_, inl, inr}
 use Prim.Native.Nat.{ℕ, _+_, _≤_, _<_}
 use native.Mathlib.Nat.{eq-or-lt-of-le, lt-of-not-le}
 use native.Mathlib.Decide.{decLe, ℕ-discrete}
 use native.Mathlib.Numerals.{add-one}
 use native.Mathlib.Omega.{arith}
-use lib.Dec.{T, eqb}
+use lib.Dec.{eqb}
 use lib.ListN.{length, drop, getD}
 use lib.Seq.{drop-cons, drop-length}
 use borrow.Author.Tests.{le-leb, lt-leb, eq-eqb, ne-eqb, eqb-true, eqb-false}
@@ -70,10 +70,6 @@ module _ {A : Type 0} (d : A) (f : List ℕ → Value A) where
   alike g e (words []) = refl
   alike g e (words (w ∷ ws)) = rw (e w)
   alike g e lost = refl
-
-pub each : (s t : Bool) → (s && t) ≡ true → (s ≡ true) × (t ≡ true)
-each true t e = (refl, e)
-each false t e = absurd (subst T (sym e) tt)
 
 -- A word ends at an index, or goes on there, or none is left.
 module _ (line : List ℕ) (i : ℕ) where

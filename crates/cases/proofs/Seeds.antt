@@ -11,13 +11,14 @@ use native.Mathlib.Omega.{arith}
 use lib.Dec.{T, ltb}
 use lib.ListN.{length, getD, replicate}
 use borrow.Author.Tests.{le-leb, lt-leb, lt-ltb, le-ltb, eq-eqb, ne-eqb, ltb-true, eqb-false}
+use Rattle.words.proofs.Either.{both}
 use Rattle.cases.specs.Line.{Left, words, lost, Value, value, none, Got, got, after, next}
 use Rattle.cases.specs.Place.{leftAt, wordEnds, twoDigits, pairs, Within, Fills}
 use Rattle.cases.specs.Seed.{Sown, zeros, counted, given, nibble, byte, before, hexes, givenBy, givenHex, countedBy, sowing, seedOf, filled, fileOf, turns}
 use Rattle.cases.specs.Number.{natural, numberOf, nameOf}
 use Rattle.cases.specs.declared.seed.Seed.{Seed}
 use Rattle.cases.specs.declared.seed.Seed.the-variants.{Bytes}
-use Rattle.cases.proofs.Reading.{letter, nothing, alike, refused, barred, each, no-end, short, empty, matched}
+use Rattle.cases.proofs.Reading.{letter, nothing, alike, refused, barred, no-end, short, empty, matched}
 
 -- What is still to be read after the first bytes.
 abbrev pub rest : List ℕ → List ℕ → Value Sown
@@ -70,10 +71,10 @@ module _ (p line : List ℕ) (i : ℕ) (h : i < length line) (s : getD line i 0 
       barred (counted 0) (λ (w : List ℕ). rest p (getD line i 0 ∷ w)) line (i + 1) refl
       (λ w. rw (lt-ltb (nibble (getD line i 0)) 16 a, le-ltb (nibble (getD line (i + 1) 0)) 16 b)) m
 
-  both : nibble (getD line i 0) < 16 → nibble (getD line (i + 1) 0) < 16 → (w : List ℕ)
+  two-nibbles : nibble (getD line i 0) < 16 → nibble (getD line (i + 1) 0) < 16 → (w : List ℕ)
       → rest p (getD line i 0 ∷ getD line (i + 1) 0 ∷ w) ≡ rest (p ++ (byte (getD line i 0) (getD line (i + 1) 0) ∷ [])) w
   unfolding hexes
-  both a b w =
+  two-nibbles a b w =
       rw (lt-ltb (nibble (getD line i 0)) 16 a, lt-ltb (nibble (getD line (i + 1) 0)) 16 b)
       (ap givenBy (before-before p (byte (getD line i 0) (getD line (i + 1) 0) ∷ []) (hexes w)))
 
@@ -84,7 +85,7 @@ module _ (p line : List ℕ) (i : ℕ) (h : i < length line) (s : getD line i 0 
       into ∙
       letter (counted 0) (λ (w : List ℕ). rest p (getD line i 0 ∷ w)) line (i + 1) m (no-space (getD line (i + 1) 0) b) ∙
       alike (counted 0) (λ (w : List ℕ). rest p (getD line i 0 ∷ getD line (i + 1) 0 ∷ w))
-      (rest (p ++ (byte (getD line i 0) (getD line (i + 1) 0) ∷ []))) (both a b) (leftAt line (i + 1 + 1))
+      (rest (p ++ (byte (getD line i 0) (getD line (i + 1) 0) ∷ []))) (two-nibbles a b) (leftAt line (i + 1 + 1))
 
   unpaired-by : twoDigits line i ≡ false → Dec (length line ≤ i + 1) → Dec (nibble (getD line i 0) ≤ 15) → Dec (nibble (getD line (i + 1) 0) ≤ 15)
       → next (counted 0) (rest p) (leftAt line i) ≡ got (counted 0) lost
@@ -118,7 +119,7 @@ unfolding twoDigits
 two-by line i (yes l) t = absurd (subst T (sym (rw (le-leb (length line) (i + 1) l) at t)) tt)
 two-by line i (no n) t =
     let l : i + 1 < length line = lt-of-not-le n in
-    let o = each (ltb (nibble (getD line i 0)) 16) (ltb (nibble (getD line (i + 1) 0)) 16) (rw (lt-leb (length line) (i + 1) l) at t) in
+    let o = both (ltb (nibble (getD line i 0)) 16) (ltb (nibble (getD line (i + 1) 0)) 16) (rw (lt-leb (length line) (i + 1) l) at t) in
     (l, ltb-true (nibble (getD line i 0)) 16 (o .0), ltb-true (nibble (getD line (i + 1) 0)) 16 (o .1))
 
 pub two-digits : (line : List ℕ) (i : ℕ) → twoDigits line i ≡ true

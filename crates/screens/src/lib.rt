@@ -1,1 +1,2 @@
-// The small screens marked * in document 01: see specs/Screens.antt for the table and proofs/Screens.antt for the theorem.
+// The small screens marked * in document 01: specs/Screens.antt has the table, proofs/Screens.antt the theorem. proofs/Runs.antt
+// speaks of runs of the calls, proofs/Cheats.antt of builds that no contract lets pass.

@@ -24,10 +24,6 @@ of-true e = subst (λ (b : Bool). T b) (sym e) tt
 pub of-false : {b : Bool} → b ≡ false → T b → ⊥
 of-false e t = subst (λ (b : Bool). T b) e t
 
-pub zero-bits : ofBits binary32 0 ≡ plusZero
-unfolding ofBits
-zero-bits = refl
-
 -- ---- how many halves
 pub halves-few : (x : Float) → halvesOf x ≤ 32766
 unfolding halvesOf

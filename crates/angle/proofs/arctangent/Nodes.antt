@@ -1,5 +1,5 @@
 -- Each node of the table against the series: its tangent is i / 512, within tau. Assumes nothing.
-use mathlib.Core.Bool.{Bool}
+use mathlib.Core.Bool.{Bool, _&&_}
 use Prim.Native.Nat.{ℕ, _+_, _*_, _-_, _≤_, _<_}
 use mathlib.Core.Path.{sym, subst}
 use native.Mathlib.Omega.{arith}
@@ -12,7 +12,7 @@ use Rattle.angle.proofs.arctangent.Lists.{sinUp, sinDown, cosUp, cosDow
 use Rattle.angle.specs.Nodes.{nodes}
 use Rattle.angle.proofs.arctangent.Budget.{W, E, B, Most, tau, B-few}
 use Rattle.angle.proofs.arctangent.Limits.{count}
-use Rattle.angle.proofs.Every.{both, every, at, both-left, both-right}
+use Rattle.angle.proofs.Every.{every, at, both-left, both-right}
 
 -- where the series are taken for the node a
 unfoldable pub place : ℕ → ℕ
@@ -20,7 +20,7 @@ place a = a * W - E
 
 test : ℕ → ℕ → ℕ → ℕ → Bool
 test i x s c =
-    both (leb (512 * s) (i * c + tau)) (both (leb (i * c) (512 * s + tau)) (both (leb c whole) (both (leb whole (2 * c)) (leb (x + Most) B))))
+    leb (512 * s) (i * c + tau) && (leb (i * c) (512 * s + tau) && (leb c whole && (leb whole (2 * c) && leb (x + Most) B)))
 
 right : ℕ → ℕ → Bool
 right i a = test i (place a) (eval sinUp (place a) - eval sinDown (place a)) (eval cosUp (place a) - eval cosDown (place a))
@@ -36,12 +36,12 @@ pub record Node (i a : ℕ) : Type 0 where
   pub large : whole ≤ 2 * cosAt (place a)
   pub room : place a + Most ≤ B
 
-five : (a b c d e : Bool) → T (both a (both b (both c (both d e)))) → T a × T b × T c × T d × T e
+five : (a b c d e : Bool) → T (a && (b && (c && (d && e)))) → T a × T b × T c × T d × T e
 five a b c d e t =
-    let t1 = both-right a (both b (both c (both d e))) t in
-    let t2 = both-right b (both c (both d e)) t1 in
-    let t3 = both-right c (both d e) t2 in
-    (both-left a (both b (both c (both d e))) t, both-left b (both c (both d e)) t1, both-left c (both d e) t2, both-left d e t3, both-right d e t3)
+    let t1 = both-right a (b && (c && (d && e))) t in
+    let t2 = both-right b (c && (d && e)) t1 in
+    let t3 = both-right c (d && e) t2 in
+    (both-left a (b && (c && (d && e))) t, both-left b (c && (d && e)) t1, both-left c (d && e) t2, both-left d e t3, both-right d e t3)
 
 made : (i a : ℕ) → T (right i a) → Node i a
 unfolding right test

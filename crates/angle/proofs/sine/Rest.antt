@@ -3,7 +3,7 @@
 use mathlib.Core.Path.{_≡_, refl, sym, ap, _∙_, subst}
 use mathlib.Core.Logic.{_⊎_, inl, inr}
 use mathlib.Core.List.{List, [], _∷_}
-use mathlib.Core.Bool.{Bool, true, false, not, _||_, cond}
+use mathlib.Core.Bool.{Bool, true, false, not, _||_, cond, _&&_}
 use Prim.Native.Nat.{ℕ, zero, suc, _+_, _-_, _*_, _/_, _%_, _^_, _≤_, _<_}
 use native.Mathlib.Nat.{div-add-mod', div-eq-of-lt-le, mod-lt, mul-lt-mul-of-pos-right, mul-le-mul-right, le-of-mul-le-mul-right, lt-of-mul-lt-mul-right, mul-assoc, lt-of-not-le}
 use native.Mathlib.Omega.{arith}
@@ -11,7 +11,7 @@ use lib.Dec.{T, leb, ltb, eqb, leb→le, nleb→lt, ltb→lt, eqb→eq, lit<}
 use borrow.Author.Tests.{le-ltb, lt-ltb}
 use Rattle.angle.specs.Meaning.{D, H, signed, mod4}
 use Rattle.angle.specs.Sine.{hUnits, halfH, turnOf, kOf, shortOf, restOf}
-use Rattle.angle.proofs.Every.{both, both-left, both-right, every, at}
+use Rattle.angle.proofs.Every.{both-left, both-right, every, at}
 use Rattle.angle.proofs.Signs.{mod4-minus}
 use Rattle.angle.proofs.Placing.{Beside}
 use Rattle.angle.proofs.sine.Units.{step, D-is, Off, Counted, far, close}
@@ -51,11 +51,11 @@ pub record Found (s : Bool) (x n : ℕ) : Type 0 where
 -- ---- where n is a multiple of 2 ^ 22, the rest is not within 8 units of half of H, nor of 0 but for k = 20
 -- the remainder of 2 ^ 22 at k, o after the start of its turn, leaves room for w more
 clear : ℕ → ℕ → ℕ → Bool
-clear k o w = let v = (k * hUnits + 141718 + o) % 4194304 in both (leb 1 v) (ltb (v + w) 4194304)
+clear k o w = let v = (k * hUnits + 141718 + o) % 4194304 in leb 1 v && ltb (v + w) 4194304
 
 ends : ℕ → ℕ → Bool
 unfolding clear
-ends k i = both (clear k 0 8) (clear k (hUnits - 8) 8)
+ends k i = clear k 0 8 && clear k (hUnits - 8) 8
 
 middle : ℕ → ℕ → Bool
 unfolding clear

@@ -34,10 +34,6 @@ D-is : D ≡ 0x1_0000_0000_0000 * k
 unfolding D k
 D-is = refl
 
-k-pos : 0 < k
-unfolding k
-k-pos = lit< tt
-
 abbrev g : ℕ → ℕ
 g n = grid binary32 n (2 ^ 48)
 

@@ -14,6 +14,7 @@ use mir.Syntax.{w32}
 use mir.Val.{SFits, toZ, ofZ}
 use mir.ValLaws.{toZ-ofZ}
 use Rattle.pixels.specs.declared.Canvas.{Canvas}
+use Rattle.words.proofs.Either.{both}
 use Rattle.canvas.specs.declared.Clip.{Clip}
 use Rattle.canvas.specs.declared.Tally.{Tally}
 use Rattle.pixels.specs.declared.rows.Span.{Span}
@@ -23,7 +24,7 @@ use Rattle.pixels.specs.Hits.{hit, touch}
 use Rattle.canvas.specs.Walk.{lowered, cutOf, Holds, Cut, plus, Work, work, act, drawn, Did, covers, dabbed, dabs, Window, Fields}
 use Rattle.canvas.proofs.span.Lifts.{lowered-neg, lowered-pos}
 use Rattle.canvas.proofs.span.Spans.{both-no, same-leb, cut-of}
-use Rattle.canvas.proofs.plot.Fates.{side-yes, side-past, side-minus, both-right}
+use Rattle.canvas.proofs.plot.Fates.{side-yes, side-past, side-minus}
 use Rattle.pixels.proofs.Hits.{touch-length}
 
 side-holds : (n : ℕ) → Holds (λ i. within (pos 0) n (pos i)) 0 n
@@ -105,7 +106,7 @@ covered s p e = go (decLt p 2147483648)
     go (yes l) = let z : false ≡ true = rw (lowered-neg p l) at e in absurd (never z)
     go (no l) =
         let z : (leb (s .from) (p - 2147483648) && ltb (p - 2147483648) (s .to)) ≡ true = rw (lowered-pos p (omega arith)) at e in
-        record { low = omega arith; inside = ltb-true (p - 2147483648) (s .to) (both-right (leb (s .from) (p - 2147483648)) (ltb (p - 2147483648) (s .to)) z) }
+        record { low = omega arith; inside = ltb-true (p - 2147483648) (s .to) (both (leb (s .from) (p - 2147483648)) (ltb (p - 2147483648) (s .to)) z .1) }
 
 module _ (v : Canvas) (xs ys : Span) (f : ℕ → ℕ) (p q : ℕ) where
   pub misses-x : (w : Work) → covers xs (lowered p) ≡ false → w ≡ dabbed v xs ys f (at (lowered p) (lowered q)) w

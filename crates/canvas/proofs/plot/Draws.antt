@@ -59,9 +59,6 @@ drawn-grows v c (p ∷ ps) w =
 pub did-append : {v : Canvas} {c : Clip} (ps qs : List Plot) {w w′ w″ : Work} → Did v c ps w w′ → Did v c qs w′ w″ → Did v c (ps ++ qs) w w″
 did-append {v} {c} ps qs {w} d e = record { same = e .same ∙ ap (drawn v c qs) (d .same) ∙ sym (drawn-append v c ps qs w) }
 
-pub did-tally : {v : Canvas} {c : Clip} {ps : List Plot} {w : Work} {b : List ℕ} {t u : Tally} → t ≡ u → Did v c ps w (work b u) → Did v c ps w (work b t)
-did-tally {b = b} e d = record { same = ap (work b) e ∙ d .same }
-
 pub did-length : {v : Canvas} {c : Clip} {ps : List Plot} {w w′ : Work} → Did v c ps w w′ → length (w′ .bytes) ≡ length (w .bytes)
 did-length {v} {c} {ps} {w} d = ap (λ (x : Work). length (x .bytes)) (d .same) ∙ drawn-length v c ps w
 
@@ -84,9 +81,6 @@ ready-back {v} {c} {ps} {qs} {w} {w′} d r = record {
 pub one-fits : {v : Canvas} {c : Clip} {p : Plot} {w : Work} → fate v c p ≡ landed → Ready v c (p ∷ []) w → Fits (plus (w .tally) 1)
 unfolding drawn
 one-fits e r = rw e at (r .room)
-
-pub did-fits : {v : Canvas} {c : Clip} {ps : List Plot} {w w′ : Work} → Did v c ps w w′ → Ready v c ps w → Fits (w′ .tally)
-did-fits {v} {c} {ps} {w} {w′} d r = omega (arith, r .room, ap (λ (x : Work). x .tally .landed) (d .same))
 
 -- plots from an empty tally, few enough to be counted
 pub ready-few : {v : Canvas} {c : Clip} {ps : List Plot} {b : List ℕ} {t : Tally} → Sized v b → t .landed ≡ 0 → length ps < 18446744073709551616 → Ready v c ps (work b t)

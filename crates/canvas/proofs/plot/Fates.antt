@@ -1,6 +1,6 @@
 -- The fate of a plot, from what the code tests.
 use mathlib.Core.Path.{_≡_, refl, sym, _∙_}
-use mathlib.Core.Bool.{Bool, true, false, cond, _&&_}
+use mathlib.Core.Bool.{Bool, true, false, cond}
 use Prim.Native.Nat.{ℕ, _+_, _-_, _≤_, _<_}
 use native.Mathlib.Omega.{arith}
 use native.Mathlib.Decide.{decLt}
@@ -9,6 +9,7 @@ use borrow.Author.Tests.{lt-ltb, le-ltb, ltb-true}
 use lib.Dec.{leb, ltb, leb·zero}
 use lib.IntN.{ℤ, pos, negsuc, natAbs}
 use Rattle.pixels.specs.declared.Canvas.{Canvas}
+use Rattle.words.proofs.Either.{both}
 use Rattle.canvas.specs.declared.Clip.{Clip}
 use Rattle.pixels.specs.Bytes.{On}
 use Rattle.canvas.specs.Clip.{within, inClip}
@@ -64,17 +65,9 @@ is-inside v c x y f false o e = rw (o, ← e) refl
 
 -- ---- what lands is on the canvas
 
-pub both-left : (a b : Bool) → (a && b) ≡ true → a ≡ true
-both-left true b e = refl
-both-left false b e = e
-
-pub both-right : (a b : Bool) → (a && b) ≡ true → b ≡ true
-both-right true b e = e
-both-right false b e = absurd (let z : _≡_ {A = ℕ} 0 1 = cc in omega arith)
-
 side-in : (n : ℕ) (x : ℤ) → within (pos 0) n x ≡ true → natAbs x < n
 unfolding within
-side-in n (pos m) e = let h : m < 0 + n = ltb-true m (0 + n) (both-right (leb 0 m) (ltb m (0 + n)) e) in omega arith
+side-in n (pos m) e = let h : m < 0 + n = ltb-true m (0 + n) (both (leb 0 m) (ltb m (0 + n)) e .1) in omega arith
 side-in n (negsuc m) e = absurd (let z : _≡_ {A = ℕ} 0 1 = cc in omega arith)
 
 judged-on : (a b : Bool) → judge a b ≡ landed → a ≡ true
@@ -86,8 +79,8 @@ unfolding fate onCanvas
 lands-on v c p e =
     let o : onCanvas v (p .x) (p .y) ≡ true = judged-on (onCanvas v (p .x) (p .y)) (inClip c (p .x) (p .y)) e in
     record {
-      across = side-in (v .width) (p .x) (both-left (within (pos 0) (v .width) (p .x)) (within (pos 0) (v .height) (p .y)) o);
-      down = side-in (v .height) (p .y) (both-right (within (pos 0) (v .width) (p .x)) (within (pos 0) (v .height) (p .y)) o);
+      across = side-in (v .width) (p .x) (both (within (pos 0) (v .width) (p .x)) (within (pos 0) (v .height) (p .y)) o .0);
+      down = side-in (v .height) (p .y) (both (within (pos 0) (v .width) (p .x)) (within (pos 0) (v .height) (p .y)) o .1);
     }
 
 -- ---- a lifted point of the canvas
@@ -108,8 +101,8 @@ module _ (v : Canvas) (p q : ℕ) (o : onCanvas v (lowered p) (lowered q) ≡ tr
   pub lifted-on : Lifted v p q
   unfolding onCanvas
   lifted-on =
-      let a = lifted-side (v .width) p (both-left (within (pos 0) (v .width) (lowered p)) (within (pos 0) (v .height) (lowered q)) o) in
-      let b = lifted-side (v .height) q (both-right (within (pos 0) (v .width) (lowered p)) (within (pos 0) (v .height) (lowered q)) o) in
+      let a = lifted-side (v .width) p (both (within (pos 0) (v .width) (lowered p)) (within (pos 0) (v .height) (lowered q)) o .0) in
+      let b = lifted-side (v .height) q (both (within (pos 0) (v .width) (lowered p)) (within (pos 0) (v .height) (lowered q)) o .1) in
       record { left = a .0; top = b .0; on = record { across = a .1; down = b .1 } }
 
   pub lifted-fate : (c : Clip) (f : ℕ → ℕ) (r : Bool) → r ≡ inClip c (pos (p - 2147483648)) (pos (q - 2147483648))

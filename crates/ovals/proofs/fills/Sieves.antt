@@ -179,9 +179,6 @@ module _ (v : Canvas) (x y : ℤ) (w h aw ah : ℕ) where
         (sieve-alike (inRound x y w h aw ah) (takes (Rounded (cornersOf x y (x +ℤ pos (w - 1)) (y +ℤ pos (h - 1)) (radiusOf aw w) (radiusOf ah h))))
         (side x w (v .width)) (side y h (v .height)) (λ i j. sym (in-round-is x y w h aw ah i j)))
 
-pub round-asked : (k : Corners) (t : List ℕ) (x y : ℤ) (w h : ℕ) → AskedIn (Rounded k) t x y w h
-round-asked k t x y w h = record { rows = λ j x0 x1 l m n o. tt }
-
 pub did-nothing : {v : Canvas} {c : Clip} {w : Work} (f : ℕ → ℕ) (ps : List Point) → ps ≡ [] → Did v c (inks f ps) w w
 unfolding inks
 did-nothing f ps e = rw e did-none
