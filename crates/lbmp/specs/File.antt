@@ -3,17 +3,12 @@ use mathlib.Core.Bool.{cond}
 use mathlib.Core.List.{List}
 use Prim.Native.Nat.{ℕ, _+_, _*_}
 use lib.Dec.{eqb}
-use lib.ListN.{getD, take, drop}
+use lib.ListN.{take, drop}
+use Rattle.fields.specs.Fields.{u32At}
 use Rattle.lbmp.specs.declared.header.Header.{Header}
 use Rattle.lbmp.specs.declared.header.Kind.{Kind}
 use Rattle.lbmp.specs.declared.header.Kind.the-variants.{Greys, Rgb332, Rgb565, Unknown}
 use Rattle.lbmp.specs.Plane.{planeSize}
-
-unfoldable pub u16At : List ℕ → ℕ → ℕ
-u16At f o = getD f o 0 + 256 * getD f (o + 1) 0
-
-unfoldable pub u32At : List ℕ → ℕ → ℕ
-u32At f o = u16At f o + 65536 * u16At f (o + 2)
 
 -- "Six little-endian u32: descriptor (not looked at here), type, width, height, size, mask."
 unfoldable pub headerOf : List ℕ → Header

@@ -1,7 +1,8 @@
 -- The pixels of a sound file: their colours, ARGB words, and how many are transparent.
 use mathlib.Core.List.{List}
 use Prim.Native.Nat.{ℕ, zero, suc, _+_, _-_, _*_}
-use lib.ListN.{getD, take, drop}
+use lib.ListN.{take, drop}
+use Rattle.fields.specs.Fields.{u8At, u16At}
 use Rattle.words.specs.declared.Color.{Color}
 use Rattle.words.specs.Format.{rgb332, rgb565, argb}
 use Rattle.words.specs.Word.{color, fromColor, toColor}
@@ -10,7 +11,7 @@ use Rattle.words.specs.Table.{run}
 use Rattle.lbmp.specs.declared.header.Kind.{Kind}
 use Rattle.lbmp.specs.declared.header.Kind.the-variants.{Greys, Rgb332, Rgb565, Unknown}
 use Rattle.lbmp.specs.Plane.{planeAt, planeSize, total}
-use Rattle.lbmp.specs.File.{u16At, headerOf, kindOf, pixelBytes, maskBytes}
+use Rattle.lbmp.specs.File.{headerOf, kindOf, pixelBytes, maskBytes}
 
 -- "Grey is 255 - 85*(2*high+low)."
 unfoldable pub grey : ℕ → ℕ
@@ -23,7 +24,7 @@ abbrev pub greyAt : List ℕ → List ℕ → ℕ → ℕ → Color
 greyAt high low w i = greyColor (planeAt high w i) (planeAt low w i)
 
 abbrev pub at332 : List ℕ → ℕ → Color
-at332 p i = toColor rgb332 (getD p i 0)
+at332 p i = toColor rgb332 (u8At p i)
 
 abbrev pub at565 : List ℕ → ℕ → Color
 at565 p i = toColor rgb565 (u16At p (2 * i))

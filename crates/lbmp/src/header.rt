@@ -3,8 +3,9 @@ ghost use mathlib.Core.Path.{_≡_};
 ghost use Prim.Native.Nat.{_+_, _*_, _≤_, _<_};
 ghost use lib.ListN.{length};
 ghost use Rattle.lbmp.specs.Plane.{planeSize};
-ghost use Rattle.lbmp.specs.File.{u16At, u32At, headerOf, kindOf, expectedSize, imageSize, pixelSize, maskSize, pixelBytes, maskBytes};
+ghost use Rattle.lbmp.specs.File.{headerOf, kindOf, expectedSize, imageSize, pixelSize, maskSize, pixelBytes, maskBytes};
 ghost use Rattle.lbmp.specs.Walk.{Whole};
+use fields::u32_at;
 
 pub(crate) struct Header {
     pub(crate) kind: u32,
@@ -20,26 +21,6 @@ pub(crate) enum Kind {
     Rgb332,
     Rgb565,
     Unknown,
-}
-
-pub(crate) fn wide(x: u8) -> u32
-    ensures { λ r. ⌜ (r ≡ x) × (r < 256) ⌝ }
-{
-    x as u32
-}
-
-pub(crate) fn u16_at(b: &[u8], o: usize) -> u32
-    requires { ⌜ o + 2 ≤ length (now b) ⌝ }
-    ensures { λ r. ⌜ (r ≡ u16At (now (b .entry)) o) × (r < 65536) ⌝ }
-{
-    wide(b[o]) + 256 * wide(b[o + 1])
-}
-
-fn u32_at(b: &[u8], o: usize) -> u32
-    requires { ⌜ o + 4 ≤ length (now b) ⌝ }
-    ensures { λ r. ⌜ r ≡ u32At (now (b .entry)) o ⌝ }
-{
-    u16_at(b, o) + 65536 * u16_at(b, o + 2)
 }
 
 pub(crate) fn read_header(file: &[u8]) -> Header

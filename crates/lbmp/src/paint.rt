@@ -3,6 +3,7 @@ ghost use mathlib.Core.Path.{_≡_};
 ghost use Prim.Native.Nat.{_+_, _*_, _≤_, _<_, _/_, _%_, _^_};
 ghost use mathlib.Core.List.{_++_};
 ghost use lib.ListN.{length, drop};
+ghost use Rattle.fields.specs.Fields.{u8At};
 ghost use Rattle.words.specs.Format.{argb};
 ghost use Rattle.words.specs.Word.{fromColor};
 ghost use Rattle.words.specs.Table.{fives, sixes, back332};
@@ -14,15 +15,16 @@ ghost use Rattle.lbmp.specs.Walk.{swept, painted, veiled, veil, Fair, Wh
 use crate::header::Header;
 use crate::header::Kind;
 use crate::header::kind_of;
-use crate::header::wide;
+use fields::u8_at;
+use fields::u16_at;
 use words::Color;
 
-// A bit of a byte.
-fn bit(byte: u8, s: u32) -> u32
-    requires { ⌜ s < 8 ⌝ }
-    ensures { λ r. ⌜ (r ≡ byte / 2 ^ s % 2) × (r ≤ 1) ⌝ }
+// A bit of a byte of a plane.
+fn bit(p: &[u8], i: usize, s: u32) -> u32
+    requires { ⌜ (i + 1 ≤ length (now p)) × (s < 8) ⌝ }
+    ensures { λ r. ⌜ (r ≡ u8At (now (p .entry)) i / 2 ^ s % 2) × (r ≤ 1) ⌝ }
 {
-    (wide(byte) >> s) % 2
+    (u8_at(p, i) >> s) % 2
 }
 
 fn grey_word(high: u32, low: u32) -> u32
@@ -51,7 +53,7 @@ fn grey_row(high: &[u8], low: &[u8], w: usize, y: usize, out: &mut [u32])
     let s = (y % 8) as u32;
     let mut x = 0;
     while x < w {
-        out[o + x] = grey_word(bit(high[base + x], s), bit(low[base + x], s));
+        out[o + x] = grey_word(bit(high, base + x, s), bit(low, base + x, s));
         x = x + 1;
     }
 }
@@ -80,7 +82,7 @@ fn bytes332(p: &[u8], table: &[u32; 256], n: usize, out: &mut [u32])
 {
     let mut i = 0;
     while i < n {
-        out[i] = words::from_color(3, words::read332(wide(p[i]), table));
+        out[i] = words::from_color(3, words::read332(u8_at(p, i), table));
         i = i + 1;
     }
 }
@@ -92,10 +94,7 @@ fn words565(p: &[u8], levels5: &[u8; 32], levels6: &[u8; 64], n: usize, out: &mu
 {
     let mut i = 0;
     while i < n {
-        out[i] = words::from_color(
-            3,
-            words::read565(crate::header::u16_at(p, 2 * i), levels5, levels6),
-        );
+        out[i] = words::from_color(3, words::read565(u16_at(p, 2 * i), levels5, levels6));
         i = i + 1;
     }
 }
@@ -142,7 +141,7 @@ fn veil_row(m: &[u8], w: usize, y: usize, out: &mut [u32])
     let s = (y % 8) as u32;
     let mut x = 0;
     while x < w {
-        out[o + x] = veiled_word(bit(m[base + x], s), out[o + x]);
+        out[o + x] = veiled_word(bit(m, base + x, s), out[o + x]);
         x = x + 1;
     }
 }

@@ -6,6 +6,7 @@ use native.Mathlib.Omega.{arith}
 use lib.ListN.{length, getD, take, drop}
 use lib.Seq.{take-all, length-take-le, drop-at}
 use lib.ListN.{length-drop}
+use Rattle.fields.specs.Fields.{u16At}
 use Rattle.words.specs.declared.Color.{Color}
 use Rattle.words.specs.Format.{rgb332, rgb565, argb}
 use Rattle.words.specs.Word.{fromColor}
@@ -16,7 +17,7 @@ use Rattle.lbmp.specs.declared.header.Header.{Header}
 use Rattle.lbmp.specs.declared.header.Kind.{Kind}
 use Rattle.lbmp.specs.declared.header.Kind.the-variants.{Greys, Rgb332, Rgb565, Unknown}
 use Rattle.lbmp.specs.Plane.{planeAt, planeSize}
-use Rattle.lbmp.specs.File.{u16At, headerOf, kindOf, expectedSize, imageSize, pixelSize, pixelBytes, maskBytes}
+use Rattle.lbmp.specs.File.{headerOf, kindOf, expectedSize, imageSize, pixelSize, pixelBytes, maskBytes}
 use Rattle.lbmp.specs.Image.{grey, greyColor, greyAt, at332, at565, colorAt, masked, wordUnder, wordAt, pixels, image}
 use Rattle.lbmp.specs.Walk.{swept, painted, veiled, veil, Fair}
 use Rattle.lbmp.proofs.planes.Bits.{no-bit}

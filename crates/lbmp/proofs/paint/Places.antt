@@ -5,13 +5,13 @@ use Prim.Native.Nat.{ℕ, _+_, _*_, _/_, _%_, _^_, _<_, _≤_}
 use native.Mathlib.Omega.{arith}
 use native.Mathlib.Nat.{mul-comm, mul-le-mul-right, add-mul, one-mul}
 use lib.ListN.{getD}
+use Rattle.fields.specs.Fields.{u16At}
 use Rattle.words.specs.declared.Color.{Color}
 use Rattle.words.specs.Format.{rgb332, rgb565, argb, formatOf}
 use Rattle.words.specs.Word.{fromColor, toColor}
 use Rattle.words.specs.Table.{fives, sixes, back332, through332, through565}
 use Rattle.words.proofs.Table.{read-332, read-565}
 use Rattle.lbmp.specs.Plane.{planeBit, planeAt}
-use Rattle.lbmp.specs.File.{u16At}
 use Rattle.lbmp.specs.Image.{greyColor, greyAt, at332, at565}
 use Rattle.lbmp.specs.Walk.{painted, veiled, veil}
 use Rattle.lbmp.proofs.planes.Bits.{plane-at}

@@ -21,11 +21,8 @@ loop-holds : tie.Need-loop-holds Inv-loop μ-loop
 unfolding swept
 loop-holds c = (refl, refl, omega arith)
 
-shared-slice-read-wide : tie.Need-shared-slice-read-wide Inv-loop μ-loop
-shared-slice-read-wide c = omega arith
-
-wide-requires : tie.Need-wide-requires Inv-loop μ-loop
-wide-requires c κs = search needs
+u8-at-requires : tie.Need-u8-at-requires Inv-loop μ-loop
+u8-at-requires c κs = omega arith
 
 read332-requires : tie.Need-read332-requires Inv-loop μ-loop
 read332-requires c κs = search needs
@@ -47,13 +44,13 @@ loop-less c = omega arith
 
 loop-again : tie.Need-loop-again Inv-loop μ-loop
 loop-again c =
-    let a = c .before .before .before .before .before .before .before .before .args in
-    let p = c .before .before .before .before .before .before .before .before .pre in
-    let l = c .before .before .before .before .before .loop in
-    let wide = c .before .before .wide in
+    let a = c .before .before .before .before .before .before .before .args in
+    let p = c .before .before .before .before .before .before .before .pre in
+    let l = c .before .before .before .before .loop in
+    let u8-at = c .before .before .u8-at in
     let read332 = c .before .read332 in (
       flat-turn (painted (at332 (a .p .now))) (l .i) (c .from-color .result) (a .out .now) (l .inv .0)
-          (is-332 (a .p .now) (a .table .now) (l .i) (wide .result) (c .from-color .result) _ (read332 .result) (p .1 .1) (wide .ensures .0)
+          (is-332 (a .p .now) (a .table .now) (l .i) (u8-at .result) (c .from-color .result) _ (read332 .result) (p .1 .1) (u8-at .ensures .0)
           (read332 .ensures) (c .from-color .ensures)),
       simp length-set (l .inv .1),
       omega arith,
@@ -74,8 +71,7 @@ bytes332-spec =
     Inv-loop
     μ-loop
     loop-holds
-    shared-slice-read-wide
-    wide-requires
+    u8-at-requires
     read332-requires
     from-color-requires
     mul-out

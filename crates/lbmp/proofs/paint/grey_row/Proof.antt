@@ -33,23 +33,17 @@ loop-holds c = (refl, refl, omega arith)
 add-bit : tie.Need-add-bit Inv-loop μ-loop
 add-bit c = omega arith
 
-shared-slice-read-bit : tie.Need-shared-slice-read-bit Inv-loop μ-loop
-shared-slice-read-bit c = omega arith
-
 bit-requires : tie.Need-bit-requires Inv-loop μ-loop
-bit-requires c κs = omega arith
+bit-requires c κs = (omega arith, omega arith)
 
 add-bit-2 : tie.Need-add-bit-2 Inv-loop μ-loop
 add-bit-2 c = omega arith
 
-shared-slice-read-bit-2 : tie.Need-shared-slice-read-bit-2 Inv-loop μ-loop
-shared-slice-read-bit-2 c = omega arith
-
 bit-requires-2 : tie.Need-bit-requires-2 Inv-loop μ-loop
-bit-requires-2 c κs = omega arith
+bit-requires-2 c κs = (omega arith, omega arith)
 
 grey-word-requires : tie.Need-grey-word-requires Inv-loop μ-loop
-grey-word-requires c κs = (c .before .before .bit .ensures .1, c .bit2 .ensures .1)
+grey-word-requires c κs = (c .before .bit .ensures .1, c .bit2 .ensures .1)
 
 add-out : tie.Need-add-out Inv-loop μ-loop
 add-out c = omega arith
@@ -68,10 +62,10 @@ loop-less c = omega arith
 
 loop-again : tie.Need-loop-again Inv-loop μ-loop
 loop-again c =
-    let a = c .before .before .before .before .before .before .before .before .before .before .args in
-    let l = c .before .before .before .before .before .before .loop in
-    let t = c .before .before .before .before .before .loop-test in
-    let bit = c .before .before .before .bit in
+    let a = c .before .before .before .before .before .before .before .before .args in
+    let l = c .before .before .before .before .loop in
+    let t = c .before .before .before .loop-test in
+    let bit = c .before .before .bit in
     let bit2 = c .before .bit2 in (
       swept-turn (painted (greyAt (a .high .now) (a .low .now) (a .w))) (a .y * a .w) (l .x) (c .grey-word .result) (a .out .now) (l .inv .0)
           (grey-is (a .w) (a .y) (l .x) (t .taken) (a .high .now) (a .low .now) (bit .result) (bit2 .result) (c .grey-word .result) _ (bit .ensures .0)
@@ -99,10 +93,8 @@ grey-row-spec =
     cast-s
     loop-holds
     add-bit
-    shared-slice-read-bit
     bit-requires
     add-bit-2
-    shared-slice-read-bit-2
     bit-requires-2
     grey-word-requires
     add-out

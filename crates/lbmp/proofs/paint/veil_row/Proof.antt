@@ -32,11 +32,8 @@ loop-holds c = (refl, refl, omega arith)
 add-bit : tie.Need-add-bit Inv-loop μ-loop
 add-bit c = omega arith
 
-shared-slice-read-bit : tie.Need-shared-slice-read-bit Inv-loop μ-loop
-shared-slice-read-bit c = omega arith
-
 bit-requires : tie.Need-bit-requires Inv-loop μ-loop
-bit-requires c κs = omega arith
+bit-requires c κs = (omega arith, omega arith)
 
 add-veiled-word : tie.Need-add-veiled-word Inv-loop μ-loop
 add-veiled-word c = omega arith
@@ -67,9 +64,9 @@ loop-less c = omega arith
 
 loop-again : tie.Need-loop-again Inv-loop μ-loop
 loop-again c =
-    let a = c .before .before .before .before .before .before .before .before .args in
-    let l = c .before .before .before .before .before .loop in
-    let t = c .before .before .before .before .loop-test in
+    let a = c .before .before .before .before .before .before .before .args in
+    let l = c .before .before .before .before .loop in
+    let t = c .before .before .before .loop-test in
     let bit = c .before .before .bit in (
       swept-turn (veil (a .m .now) (a .w)) (a .y * a .w) (l .x) (c .veiled-word .result) (a .out .now) (l .inv .0)
           (veil-is (a .w) (a .y) (l .x) (t .taken) (a .m .now) (bit .result) (c .veiled-word .result) _ (bit .ensures .0) (c .veiled-word .ensures)),
@@ -97,7 +94,6 @@ veil-row-spec =
     cast-s
     loop-holds
     add-bit
-    shared-slice-read-bit
     bit-requires
     add-veiled-word
     mul-veiled-word

@@ -1,9 +1,9 @@
 -- Two halves, the low one first.
 use native.Mathlib.Omega.{arith}
 use borrow.Author.Needs.{needs}
-use Rattle.lbmp.specs.File.{u32At}
-use Rattle.lbmp.proofs.header.u32_at.Statement.{statement}
-use Rattle.lbmp.proofs.header.u32_at.Tie as tie
+use Rattle.fields.specs.Fields.{u32At}
+use Rattle.fields.proofs.u32_at.Statement.{statement}
+use Rattle.fields.proofs.u32_at.Tie as tie
 
 u16-at-requires : tie.Need-u16-at-requires
 u16-at-requires c κs = search needs
