@@ -13,7 +13,7 @@ use borrow.Author.Tests.{lt-ltb, le-ltb, ltb-false}
 use Rattle.cases.specs.Answer.{glyph, spelled, places, number, statusText, foundText, placed, lineOf, answered}
 use Rattle.cases.specs.Place.{Wrote}
 use Rattle.cases.specs.declared.answer.Found.{Found}
-use Rattle.cases.specs.declared.answer.Found.the-variants.{Count, Argb, Nothing, Image}
+use Rattle.cases.specs.declared.answer.Found.the-variants.{Count, Argb, Nothing, Image, Icon}
 use Rattle.cases.specs.declared.answer.Answer.{Answer}
 
 pub length-placed : (d : List ℕ) (at : ℕ) (t : List ℕ) → length (placed d at t) ≡ length d
@@ -130,6 +130,7 @@ found-most (Count n) = rw length-append (omega (arith, number-most 10 n))
 found-most (Argb n) = rw length-append (omega (arith, number-most 10 n))
 found-most Nothing = lit≤ tt
 found-most (Image w h clear) = simp length-append (omega (arith, number-most 10 w, number-most 10 h, number-most 10 clear))
+found-most (Icon w h start) = simp length-append (omega (arith, number-most 10 w, number-most 10 h, number-most 10 start))
 
 line-most : (a : Answer) → length (lineOf a) ≤ 144
 unfolding lineOf

@@ -5,7 +5,7 @@ use Prim.Native.Nat.{ℕ, zero, suc, _+_, _/_, _%_}
 use lib.Dec.{ltb}
 use lib.ListN.{length, set}
 use Rattle.cases.specs.declared.answer.Found.{Found}
-use Rattle.cases.specs.declared.answer.Found.the-variants.{Count, Argb, Nothing, Image}
+use Rattle.cases.specs.declared.answer.Found.the-variants.{Count, Argb, Nothing, Image, Icon}
 use Rattle.cases.specs.declared.answer.Answer.{Answer}
 
 -- 0 to 9, then a to f; above them each byte for itself.
@@ -29,14 +29,16 @@ number base n = spelled base (places base 19 n) n
 abbrev pub decimal : ℕ → List ℕ
 decimal n = number 10 n
 
--- "count=N"; "`get` has `argb=N` or `none` in the place of count; `lbmp` has `w=N h=N clear=N` there"
+abbrev pub sidesText : ℕ → ℕ → List ℕ
+sidesText w h = ((32 ∷ 119 ∷ 61 ∷ []) ++ decimal w) ++ ((32 ∷ 104 ∷ 61 ∷ []) ++ decimal h)
+
+-- "count=N"; "`get` has `argb=N` or `none` in the place of count; `lbmp` has `w=N h=N clear=N` there, and `res` `w=N h=N at=N`"
 unfoldable pub foundText : Found → List ℕ
 foundText (Count n) = (32 ∷ 99 ∷ 111 ∷ 117 ∷ 110 ∷ 116 ∷ 61 ∷ []) ++ decimal n
 foundText (Argb n) = (32 ∷ 97 ∷ 114 ∷ 103 ∷ 98 ∷ 61 ∷ []) ++ decimal n
 foundText Nothing = 32 ∷ 110 ∷ 111 ∷ 110 ∷ 101 ∷ []
-foundText (Image w h clear) =
-    (((32 ∷ 119 ∷ 61 ∷ []) ++ decimal w) ++ ((32 ∷ 104 ∷ 61 ∷ []) ++ decimal h))
-    ++ ((32 ∷ 99 ∷ 108 ∷ 101 ∷ 97 ∷ 114 ∷ 61 ∷ []) ++ decimal clear)
+foundText (Image w h clear) = sidesText w h ++ ((32 ∷ 99 ∷ 108 ∷ 101 ∷ 97 ∷ 114 ∷ 61 ∷ []) ++ decimal clear)
+foundText (Icon w h start) = sidesText w h ++ ((32 ∷ 97 ∷ 116 ∷ 61 ∷ []) ++ decimal start)
 
 -- "OP status=N"; a name is its letters, as the digits of base 256.
 unfoldable pub statusText : Answer → List ℕ

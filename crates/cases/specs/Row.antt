@@ -63,9 +63,10 @@ rowOf op =
     -- copy, invert
     (cond (eqb op 0x636f7079) (point ++ point ++ extent ++ clip)
     (cond (eqb op 0x696e76657274) (point ++ extent ++ clip)
-    -- draw, lbmp
+    -- draw, lbmp, res
     (cond (eqb op 0x64726177) (point ++ extent ++ (e ∷ e ∷ e ∷ d ∷ []) ++ point ++ clip)
-    (cond (eqb op 0x6c626d70) (e ∷ f ∷ []) []))))))))))))
+    (cond (eqb op 0x6c626d70) (e ∷ f ∷ [])
+    (cond (eqb op 0x726573) (f ∷ []) [])))))))))))))
 
 -- The arguments that are numbers, each at its place among the words, and the seed or the file.
 pub record Args : Type 0 where

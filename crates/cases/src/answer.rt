@@ -3,17 +3,18 @@ ghost use mathlib.Core.Path.{_≡_};
 ghost use Prim.Native.Nat.{_≤_, _<_, _+_};
 ghost use mathlib.Core.List.{[], _∷_, _++_};
 ghost use lib.ListN.{length};
-ghost use Rattle.cases.specs.Answer.{spelled, number, foundText, answered};
+ghost use Rattle.cases.specs.Answer.{spelled, number, sidesText, foundText, answered};
 ghost use Rattle.cases.specs.Place.{Wrote};
-ghost use Rattle.cases.specs.declared.answer.Found.the-variants.{Image};
 ghost use Rattle.cases.specs.Answer.{glyph as glyphOf, places as placesOf};
 
-// What a call found: how many plots landed, a colour, nothing, or an image's sides and how many of its pixels are clear.
+// What a call found: how many plots landed, a colour, nothing, an image's sides and how many of its pixels are clear, or
+// an icon's sides and where in its file its pixels start.
 pub enum Found {
     Count(u64),
     Argb(u32),
     Nothing,
     Image { w: u32, h: u32, clear: u64 },
+    Icon { w: u32, h: u32, start: u64 },
 }
 
 // The name is its letters, as a case has it.
@@ -38,6 +39,8 @@ const WIDTH: u64 = 0x20773d;
 const HEIGHT: u64 = 0x20683d;
 
 const CLEAR: u64 = 0x20636c6561723d;
+
+const START: u64 = 0x2061743d;
 
 const HASH: u64 = 0x20686173683d;
 
@@ -110,15 +113,15 @@ fn put_field(out: &mut [u8], at: usize, k: usize, label: u64, n: u64) -> usize
     put_number(out, from, 10, n)
 }
 
-// Puts an image's sides and how many of its pixels are clear.
-fn put_image(out: &mut [u8], at: usize, w: u32, h: u32, clear: u64) -> usize
-    requires { ⌜ at + 73 ≤ length (now out) ⌝ }
-    ensures { λ r. ⌜ Wrote (foundText (Image w h clear)) (now (out .entry)) at (now (out .exit)) r ⌝ }
-    ensures { λ r. ⌜ r ≤ at + 73 ⌝ }
+// Puts an image's sides, and a label of k letters and a number.
+fn put_image(out: &mut [u8], at: usize, w: u32, h: u32, k: usize, label: u64, n: u64) -> usize
+    requires { ⌜ at + k + 66 ≤ length (now out) ⌝ }
+    ensures { λ r. ⌜ Wrote (sidesText w h ++ (spelled 256 k label ++ number 10 n)) (now (out .entry)) at (now (out .exit)) r ⌝ }
+    ensures { λ r. ⌜ r ≤ at + k + 66 ⌝ }
 {
     let a = put_field(out, at, 3, WIDTH, w as u64);
     let b = put_field(out, a, 3, HEIGHT, h as u64);
-    put_field(out, b, 7, CLEAR, clear)
+    put_field(out, b, k, label, n)
 }
 
 fn put_found(out: &mut [u8], at: usize, f: Found) -> usize
@@ -130,7 +133,8 @@ fn put_found(out: &mut [u8], at: usize, f: Found) -> usize
         Found::Count(n) => put_field(out, at, 7, COUNT, n),
         Found::Argb(n) => put_field(out, at, 6, ARGB, n as u64),
         Found::Nothing => put_digits(out, at, 256, 5, NONE),
-        Found::Image { w, h, clear } => put_image(out, at, w, h, clear),
+        Found::Image { w, h, clear } => put_image(out, at, w, h, 7, CLEAR, clear),
+        Found::Icon { w, h, start } => put_image(out, at, w, h, 4, START, start),
     }
 }
 

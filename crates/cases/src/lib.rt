@@ -25,4 +25,5 @@ pub use row::LINE;
 pub use row::PIE;
 pub use row::PUT;
 pub use row::RECT;
+pub use row::RES;
 pub use row::RRECT;

@@ -35,6 +35,8 @@ pub const DRAW: u64 = 0x64726177;
 
 pub const LBMP: u64 = 0x6c626d70;
 
+pub const RES: u64 = 0x726573;
+
 // The arguments that were read: those that are numbers, each at its place among the words, the seed or the file, and
 // the place after them.
 pub(crate) struct Args {
@@ -59,6 +61,7 @@ pub(crate) fn kinds(name: u64) -> u64
         INVERT => 0xaaee_aaee_0000_0000,
         DRAW => 0xaaee_eeed_aaaa_ee00,
         LBMP => 0xef00_0000_0000_0000,
+        RES => 0xf000_0000_0000_0000,
         _ => 0,
     }
 }

@@ -22,9 +22,11 @@ use cases::LINE;
 use cases::PIE;
 use cases::PUT;
 use cases::RECT;
+use cases::RES;
 use cases::RRECT;
 use lbmp::Judged;
 use pixels::Canvas;
+use res::Icon;
 use words::Color;
 
 // The i32 that has these bits.
@@ -247,6 +249,42 @@ fn bitmap(file: &[u8], room: u32) -> Answer {
     decode(file, &mut words[..n])
 }
 
+// Where an icon's part of the file starts; an empty part is at 0.
+fn start_of(i: Icon) -> u64 {
+    if (i.width == 0) | (i.height == 0) {
+        return 0;
+    }
+    i.start as u64
+}
+
+// Finds a file's first icon.
+fn icon(file: &[u8]) -> Answer {
+    let hash = cases::hash(res::icon_pixels(file));
+    let f = res::decode_res(file);
+    match f {
+        res::Found::Refused(r) => Answer {
+            name: RES,
+            status: r.number(),
+            found: Found::Icon {
+                w: 0,
+                h: 0,
+                start: 0,
+            },
+            hash,
+        },
+        res::Found::Here(i) => Answer {
+            name: RES,
+            status: 0,
+            found: Found::Icon {
+                w: i.width,
+                h: i.height,
+                start: start_of(i),
+            },
+            hash,
+        },
+    }
+}
+
 // Reads the pixel that a case names.
 fn get(v: Canvas, n: [u32; 16], bytes: &[u8]) -> Answer {
     let p = canvas::get_pixel(v, bytes, int(n, 0), int(n, 1));
@@ -263,6 +301,7 @@ pub(crate) fn respond(c: Case, bytes: &mut [u8], image: &[u8]) -> Answer {
         0 => BAD,
         GET => get(v, n, bytes),
         LBMP => bitmap(image, word(n, 0)),
+        RES => icon(image),
         DRAW => picture(v, n, bytes, image),
         _ => {
             let d = call(name, v, n, bytes);

@@ -1,3 +1,4 @@
 pub mod Cheats
 pub mod Runs
+pub mod Icons
 pub mod Screens

@@ -93,7 +93,7 @@ pub data Made : Canvas → Call → List ℕ → Drawn → List ℕ → Type 0 w
   by-draw : {κs : _} {v : Canvas} {m : RefT (List ℕ)} {dx dy : ℤ} {w h : ℕ} {source : Canvas} {image : RefT (List ℕ)} {sx sy : ℤ} {k : Clip} {d : Drawn} {s : _}
       → Ran draw-kinds.ps draw-kinds.r draw.Post κs (v, (m, (dx, (dy, (w, (h, (source, (image, (sx, (sy, (k, tt))))))))))) d s → Made v (drawCall dx dy w h source (now image) sx sy k) (now m) d (now (s .1 .0))
 
-made-is : {v : Canvas} {k : Call} {b b′ : List ℕ} {d : Drawn} → Made v k b d b′ → leaves d b′ ≡ call v k b
+pub made-is : {v : Canvas} {k : Call} {b b′ : List ℕ} {d : Drawn} → Made v k b d b′ → leaves d b′ ≡ call v k b
 made-is (by-put-pixel q) = q .post
 made-is (by-draw-line q) = q .post
 made-is (by-draw-rect q) = q .post

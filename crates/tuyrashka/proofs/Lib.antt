@@ -1,3 +1,4 @@
 pub mod Answers
 pub mod Bitmaps
+pub mod Icons
 pub mod Determined

@@ -7,6 +7,7 @@ ghost use Rattle.canvas.specs.Look.{pixelAt};
 ghost use Rattle.tuyrashka.specs.Exported.{canvas, source, clip, colorOf, told, tells};
 
 mod bitmap;
+mod icon;
 mod rounds;
 
 use canvas::Clip;

@@ -50,10 +50,29 @@ returns-10 c = rw (c .match .keys10)
 
 returns-11 : tie.Need-returns-11
 unfolding rowOf kindsIn
-returns-11 c =
+returns-11 c = rw (c .match .keys11)
+
+returns-12 : tie.Need-returns-12
+unfolding rowOf kindsIn
+returns-12 c =
     let n = c .before .args .name in
     let rest = c .match .rest in
-    rw (ne-eqb n 0x707574 (rest .0 .0 .0 .0 .0 .0 .0 .0 .0 .1), ne-eqb n 0x676574 (rest .0 .0 .0 .0 .0 .0 .0 .0 .1), ne-eqb n 0x6c696e65 (rest .0 .0 .0 .0 .0 .0 .0 .1), ne-eqb n 0x72656374 (λ (e : n ≡ 0x72656374). (rest .0 .0 .0 .0 .0 .0 .1) (inr e)), ne-eqb n 0x66696c6c (λ (e : n ≡ 0x66696c6c). (rest .0 .0 .0 .0 .0 .0 .1) (inl e)), ne-eqb n 0x617263 (λ (e : n ≡ 0x617263). (rest .0 .0 .0 .0 .0 .1) (inl e)), ne-eqb n 0x706965 (λ (e : n ≡ 0x706965). (rest .0 .0 .0 .0 .0 .1) (inr e)), ne-eqb n 0x7272656374 (λ (e : n ≡ 0x7272656374). (rest .0 .0 .0 .0 .1) (inl e)), ne-eqb n 0x667272656374 (λ (e : n ≡ 0x667272656374). (rest .0 .0 .0 .0 .1) (inr e)), ne-eqb n 0x636f7079 (rest .0 .0 .0 .1), ne-eqb n 0x696e76657274 (rest .0 .0 .1), ne-eqb n 0x64726177 (rest .0 .1), ne-eqb n 0x6c626d70 (rest .1))
+    rw (
+      ne-eqb n 0x707574 (rest .0 .0 .0 .0 .0 .0 .0 .0 .0 .0 .1),
+      ne-eqb n 0x676574 (rest .0 .0 .0 .0 .0 .0 .0 .0 .0 .1),
+      ne-eqb n 0x6c696e65 (rest .0 .0 .0 .0 .0 .0 .0 .0 .1),
+      ne-eqb n 0x72656374 (λ (e : n ≡ 0x72656374). rest .0 .0 .0 .0 .0 .0 .0 .1 (inr e)),
+      ne-eqb n 0x66696c6c (λ (e : n ≡ 0x66696c6c). rest .0 .0 .0 .0 .0 .0 .0 .1 (inl e)),
+      ne-eqb n 0x617263 (λ (e : n ≡ 0x617263). rest .0 .0 .0 .0 .0 .0 .1 (inl e)),
+      ne-eqb n 0x706965 (λ (e : n ≡ 0x706965). rest .0 .0 .0 .0 .0 .0 .1 (inr e)),
+      ne-eqb n 0x7272656374 (λ (e : n ≡ 0x7272656374). rest .0 .0 .0 .0 .0 .1 (inl e)),
+      ne-eqb n 0x667272656374 (λ (e : n ≡ 0x667272656374). rest .0 .0 .0 .0 .0 .1 (inr e)),
+      ne-eqb n 0x636f7079 (rest .0 .0 .0 .0 .1),
+      ne-eqb n 0x696e76657274 (rest .0 .0 .0 .1),
+      ne-eqb n 0x64726177 (rest .0 .0 .1),
+      ne-eqb n 0x6c626d70 (rest .0 .1),
+      ne-eqb n 0x726573 (rest .1),
+    )
 
 pub kinds-spec : {M : Type 1} → statement M
 kinds-spec =
@@ -69,4 +88,5 @@ kinds-spec =
     returns-8
     returns-9
     returns-10
-    returns-11)
+    returns-11
+    returns-12)

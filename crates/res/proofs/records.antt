@@ -1,0 +1,2 @@
+-- What a record's step is.
+pub mod Steps
