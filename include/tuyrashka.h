@@ -126,6 +126,13 @@ uint32_t tuyrashka_decode_lbmp(const uint8_t *file, size_t file_len,
                                uint32_t *out, size_t out_len,
                                uint32_t *width, uint32_t *height, uint64_t *clear);
 
+/* Finds the first static icon of a RES file: its pixels are the *width times *height bytes of the file from *start on, in
+ * rows, and a source of tuyrashka_draw with format 0 that is never refused. Returns 0, or the first that is met of 13 RES (no
+ * start or first offset; pixels or a count of frames missing), 14 DEPTH (not 8), 15 RESTYPE (not 2 or 3), 16 NOICON (the file
+ * ends first); *start, *width and *height are then 0. */
+uint32_t tuyrashka_decode_res(const uint8_t *file, size_t file_len,
+                              size_t *start, uint32_t *width, uint32_t *height);
+
 #ifdef __cplusplus
 }
 #endif

@@ -12,6 +12,8 @@ mod canvas;
 mod case;
 #[path = "../src/differ.rs"]
 mod differ;
+#[path = "../src/icons.rs"]
+mod icons;
 #[allow(dead_code)]
 #[path = "../src/rule.rs"]
 mod rule;

@@ -11,6 +11,7 @@ mod oracle {
     pub mod canvas;
     pub mod case;
     pub mod differ;
+    pub mod icons;
     pub mod random;
     pub mod rule;
     pub mod tally;
@@ -22,7 +23,7 @@ mod tuyrashka;
 
 use std::process::ExitCode;
 
-use oracle::{answer, canvas, case, differ, rule, tally};
+use oracle::{answer, canvas, case, differ, icons, rule, tally};
 
 use answer::{answer, landed, refusal};
 use case::{Call, Case, Screen};

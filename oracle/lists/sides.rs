@@ -43,7 +43,9 @@ pub fn ours(screen: &mut Screen, xor: bool, call: &Call) -> Answer {
             let image = tuyrashka::Image { format, width, height, data: bytes };
             canvas.draw(dx, dy, w, h, image, sx, sy, part(clip))
         }
-        Call::Get { .. } | Call::Copy { .. } | Call::Invert { .. } | Call::Lbmp { .. } => unreachable!("not in a list"),
+        Call::Get { .. } | Call::Copy { .. } | Call::Invert { .. } | Call::Lbmp { .. } | Call::Res { .. } => {
+            unreachable!("not in a list")
+        }
     };
     answer.map_or_else(|refusal| (refusal.number(), 0), |count| (0, count))
 }

@@ -5,9 +5,11 @@ use std::panic::catch_unwind;
 use wie_util::WieError;
 
 use crate::canvas::{
-    AbgrPixel, ArgbPixel, Canvas, ImageBufferCanvas, PixelType, Rgb8Pixel, Rgb332Pixel, Rgb565Pixel, VecImageBuffer, lbmp,
+    AbgrPixel, ArgbPixel, Canvas, ImageBufferCanvas, PixelType, Rgb8Pixel, Rgb332Pixel, Rgb565Pixel, VecImageBuffer, decode_res,
+    lbmp,
 };
 use crate::case::{Area, Call, Case, Screen, pixel_size};
+use crate::icons::{number, place};
 use crate::rule::Pixel;
 use crate::tally::Tally;
 
@@ -21,8 +23,10 @@ pub fn answer(line: &[u8]) -> String {
 
 fn answered(case: &Case) -> String {
     let Case { screen, xor, op, call } = case;
-    if let Call::Lbmp { room, file } = call {
-        return read_lbmp(*room, file);
+    match call {
+        Call::Lbmp { room, file } => return read_lbmp(*room, file),
+        Call::Res { file } => return read_res(file),
+        _ => (),
     }
     let status = refusal(screen, call);
     if let Call::Get { x, y } = *call {
@@ -84,7 +88,7 @@ pub fn paint(canvas: &mut dyn Canvas, call: &Call) {
         Call::Draw { at: Area(dx, dy, w, h), ref source, from: (sx, sy), clip } => {
             canvas.draw(dx, dy, w, h, self::canvas(source).image(), sx, sy, clip)
         }
-        Call::Get { .. } | Call::Lbmp { .. } => unreachable!("they draw nothing"),
+        Call::Get { .. } | Call::Lbmp { .. } | Call::Res { .. } => unreachable!("they draw nothing"),
     }
 }
 
@@ -100,6 +104,15 @@ fn read_lbmp(room: u32, file: &[u8]) -> String {
         }
     };
     format!("lbmp status={status} w={width} h={height} clear={clear} hash={:016x}", hash(&words))
+}
+
+/// Its refusals are the Rust's own.
+fn read_res(file: &[u8]) -> String {
+    let (status, width, height, at, pixels) = match decode_res(file) {
+        Err(refusal) => (number(&refusal), 0, 0, 0, Vec::new()),
+        Ok(image) => (0, image.width(), image.height(), place(file, &image.raw()), image.raw().into_owned()),
+    };
+    format!("res status={status} w={width} h={height} at={at} hash={:016x}", hash(&pixels))
 }
 
 pub fn canvas(screen: &Screen) -> Box<dyn Canvas> {

@@ -33,6 +33,7 @@ pub enum Call {
     Invert { at: Area, clip: Clip },
     Draw { at: Area, source: Screen, from: (i32, i32), clip: Clip },
     Lbmp { room: u32, file: Vec<u8> },
+    Res { file: Vec<u8> },
 }
 
 impl Call {
@@ -98,15 +99,8 @@ impl<F: FnMut(&u8) -> bool> Words<'_, F> {
                 let source = self.screen(format, width, height)?;
                 Call::Draw { at, source, from: self.point()?, clip: self.clip()? }
             }
-            "lbmp" => {
-                let room = self.unsigned()?;
-                let file = match self.0.next()? {
-                    b"-" => Vec::new(),
-                    b"" => return None,
-                    digits => hex(digits)?,
-                };
-                Call::Lbmp { room, file }
-            }
+            "lbmp" => Call::Lbmp { room: self.unsigned()?, file: self.file()? },
+            "res" => Call::Res { file: self.file()? },
             _ => return None,
         })
     }
@@ -126,6 +120,15 @@ impl<F: FnMut(&u8) -> bool> Words<'_, F> {
             }
         };
         (bytes.len() as u128 <= ROOM).then_some(Screen { format, width, height, bytes })
+    }
+
+    /// A file's bytes.
+    fn file(&mut self) -> Option<Vec<u8>> {
+        match self.0.next()? {
+            b"-" => Some(Vec::new()),
+            b"" => None,
+            digits => hex(digits),
+        }
     }
 
     fn sizes(&mut self) -> Option<(u32, u32, u32)> {

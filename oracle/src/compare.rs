@@ -1,5 +1,6 @@
 //! The port and the Rust on the same lines.
 
+use std::collections::BTreeMap;
 use std::io::{BufRead, BufReader, BufWriter, Write};
 use std::process::{Child, Command, Stdio};
 use std::thread;
@@ -55,7 +56,8 @@ fn asked(program: &str, lines: &[String]) -> Vec<String> {
 #[derive(Default)]
 struct Tally {
     landed: u64,
-    refused: u64,
+    /// By the number of the refusal.
+    refused: BTreeMap<u32, u64>,
     unread: u64,
     differences: u64,
     permitted: u64,
@@ -67,9 +69,11 @@ struct Tally {
 impl Tally {
     /// Whether the answers differ though they may not.
     fn look(&mut self, case: &str, ours: &str, rust: &[String; 2], port: &str) -> bool {
-        let accepted = rust[0].contains(" status=0 ");
+        let accepted = status(&rust[0]) == Some(0);
         self.unread += (rust[0] == "bad") as u64;
-        self.refused += (!accepted && rust[0].contains(" status=")) as u64;
+        if let Some(number) = status(&rust[0]).filter(|&number| number != 0) {
+            *self.refused.entry(number).or_default() += 1;
+        }
         self.landed += (accepted && !rust[0].contains(" count=0 ") && !rust[0].contains(" none ")) as u64;
         if CURVES.iter().any(|op| rust[0].starts_with(op)) {
             self.points += count(&rust[0]).unwrap_or(0);
@@ -84,6 +88,10 @@ impl Tally {
         self.differences += points.is_none() as u64;
         points.is_none()
     }
+}
+
+fn status(answer: &str) -> Option<u32> {
+    answer.split(' ').find_map(|word| word.strip_prefix("status="))?.parse().ok()
 }
 
 /// Runs the port and the two builds of the Rust; whether they agree.
@@ -103,10 +111,12 @@ pub fn compare(n: u64, seed: u64, ops: &[&'static str], [port, checked, unchecke
     let ended = [&mut ours].into_iter().chain(&mut rust).fold(true, |well, side| ended_well(side) && well);
     let Tally { landed, refused, unread, differences, permitted, points, elsewhere } = tally;
     println!(
-        "compared {n} cases of {} (seed {seed}): {landed} landed or found something, {refused} refused, {unread} unreadable; \
+        "compared {n} cases of {} (seed {seed}): {landed} landed or found something, {} refused, {unread} unreadable; \
          {differences} differences, {permitted} permitted",
-        ops.join(",")
+        ops.join(","),
+        refused.values().sum::<u64>()
     );
+    println!("refused, by number: {}", refused.iter().map(|(number, n)| format!("{number}: {n}")).collect::<Vec<_>>().join(", "));
     if points > 0 {
         println!("strokes and pies: {points} points landed, {elsewhere} of them elsewhere, where they may");
     }

@@ -3,6 +3,7 @@
 mod boxes;
 mod curves;
 mod files;
+mod icons;
 mod images;
 mod lines;
 
@@ -36,6 +37,7 @@ pub fn fixed(ops: &[&'static str]) -> Vec<String> {
             "invert" => boxes::invert(&mut list),
             "draw" => images::draw(&mut list),
             "lbmp" => files::lbmp(&mut list),
+            "res" => icons::res(&mut list),
             _ => continue,
         }
         refused(op, &mut list);

@@ -13,6 +13,7 @@ mod case;
 mod compare;
 mod differ;
 mod fixed;
+mod icons;
 mod random;
 mod rule;
 mod tally;

@@ -1,12 +1,13 @@
 //! Random cases, weighted so that most land something and the edges are met often.
 
 mod curves;
+mod icons;
 mod lines;
 
 use crate::case::pixel_size;
 
-pub const OPS: [&str; 13] =
-    ["put", "get", "line", "rect", "fill", "arc", "pie", "rrect", "frrect", "copy", "invert", "draw", "lbmp"];
+pub const OPS: [&str; 14] =
+    ["put", "get", "line", "rect", "fill", "arc", "pie", "rrect", "frrect", "copy", "invert", "draw", "lbmp", "res"];
 
 const MIN: i64 = i32::MIN as i64;
 const MAX: i64 = i32::MAX as i64;
@@ -70,8 +71,10 @@ impl Chance {
     }
 
     fn case(&mut self, op: &str) -> String {
-        if op == "lbmp" {
-            return self.lbmp();
+        match op {
+            "lbmp" => return self.lbmp(),
+            "res" => return self.res(),
+            _ => (),
         }
         let (w, h) = match op {
             "line" => self.line_sides(),

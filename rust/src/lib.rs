@@ -19,7 +19,7 @@ pub struct Canvas<'a> {
 }
 
 /// Bytes that are only read, seen likewise.
-#[derive(Clone, Copy)]
+#[derive(Clone, Copy, Debug, PartialEq, Eq)]
 pub struct Image<'a> {
     pub format: u32,
     pub width: u32,
@@ -80,6 +80,21 @@ pub enum LbmpRefusal {
 }
 
 impl LbmpRefusal {
+    pub fn number(self) -> u32 {
+        self as u32
+    }
+}
+
+/// Why a file of icons was refused. The numbers are the library's.
+#[derive(Clone, Copy, Debug, PartialEq, Eq)]
+pub enum ResRefusal {
+    Res = 13,
+    Depth,
+    ResType,
+    NoIcon,
+}
+
+impl ResRefusal {
     pub fn number(self) -> u32 {
         self as u32
     }
@@ -177,6 +192,9 @@ unsafe extern "C" {
     fn tuyrashka_decode_lbmp(
         file: *const u8, length: usize, out: *mut u32, room: usize, width: *mut u32, height: *mut u32, clear: *mut u64,
     ) -> u32;
+    fn tuyrashka_decode_res(
+        file: *const u8, length: usize, start: *mut usize, width: *mut u32, height: *mut u32,
+    ) -> u32;
 }
 
 #[rustfmt::skip]
@@ -225,6 +243,21 @@ pub fn decode_lbmp(file: &[u8], out: &mut [u32]) -> Result<Bitmap, LbmpRefusal> 
         10 => Err(LbmpRefusal::Invalid),
         11 => Err(LbmpRefusal::Type),
         12 => Err(LbmpRefusal::Room),
+        _ => unreachable!("no number of a file: {status}"),
+    }
+}
+
+/// Finds the first static icon of a RES file. Its pixels are a part of the file.
+pub fn decode_res(file: &[u8]) -> Result<Image<'_>, ResRefusal> {
+    let (mut start, mut width, mut height) = (0, 0, 0);
+    // SAFETY: pointer and length are those of a slice that is only read, and the rest are three locals.
+    let status = unsafe { tuyrashka_decode_res(file.as_ptr(), file.len(), &mut start, &mut width, &mut height) };
+    match status {
+        0 => Ok(Image { format: RGB332, width, height, data: &file[start..start + width as usize * height as usize] }),
+        13 => Err(ResRefusal::Res),
+        14 => Err(ResRefusal::Depth),
+        15 => Err(ResRefusal::ResType),
+        16 => Err(ResRefusal::NoIcon),
         _ => unreachable!("no number of a file: {status}"),
     }
 }

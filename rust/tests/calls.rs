@@ -1,6 +1,8 @@
 //! The wrapper's test: small screens, XOR and its undoing, and every refusal on either side of its edge.
 
-use tuyrashka::{ABGR, ARGB, Canvas, Clip, Color, Image, LbmpRefusal, RGB8, RGB332, RGB565, Refusal, decode_lbmp};
+use tuyrashka::{
+    ABGR, ARGB, Canvas, Clip, Color, Image, LbmpRefusal, RGB8, RGB332, RGB565, Refusal, ResRefusal, decode_lbmp, decode_res,
+};
 
 type Answer = Result<u64, Refusal>;
 
@@ -272,6 +274,36 @@ fn bitmaps_are_refused() {
     assert_eq!([0, 1, 2].map(|mask| tried(&file([8, 2, 2, 4, mask], &[1; 6]), 4)), [0, 0, 10]);
     assert_eq!([7, 8, 9].map(|kind| tried(&file([kind, 2, 2, 4, 0], &[1; 4]), 4)), [11, 0, 11]);
     assert_eq!([3, 4, 5].map(|size| tried(&file([8, 2, 2, size, 0], &[1; 5]), 4)), [10, 0, 10]);
+}
+
+/// Records behind the start of a RES file.
+fn icons(records: &[&[u8]]) -> Vec<u8> {
+    [b"\xCE\xFA\xAD\xDE\0\0\x08\0", &records.concat()[..]].concat()
+}
+
+/// The part is the file's own bytes, behind two frames of two pixels; an icon of no pixels is found, too.
+#[test]
+fn icons_are_found_and_drawn() {
+    let frames = [3, 2, 1, 8, 0, 0, 0, 0, 2, 1, 2, 3, 4];
+    let file = icons(&[&frames, &[2, 3, 2, 8, 0, 0, 0, 0], &[10, 11, 12, 13, 14, 15], b"more"]);
+    let icon = decode_res(&file).unwrap();
+    assert_eq!(icon, Image { format: RGB332, width: 3, height: 2, data: &[10, 11, 12, 13, 14, 15] });
+    assert_eq!(icon.data.as_ptr(), file[29..].as_ptr());
+    let (drawn, screen) = on_black(4, 3, |canvas, whole| canvas.draw(1, 1, 3, 2, icon, 0, 0, whole));
+    assert_eq!((drawn, screen), (Ok(6), vec![0, 0, 0, 0, 0, 10, 11, 12, 0, 13, 14, 15]));
+    let none = icons(&[&[2, 0, 9, 8, 0, 0, 0, 0]]);
+    assert_eq!(decode_res(&none), Ok(Image { format: RGB332, width: 0, height: 9, data: &[] }));
+}
+
+#[test]
+fn icons_are_refused() {
+    let tried = |file: &[u8]| decode_res(file).map_or_else(ResRefusal::number, |_| 0);
+    let whole = icons(&[&[3, 1, 1, 8, 0, 0, 0, 0, 1, 7], &[2, 1, 1, 8, 0, 0, 0, 0, 7]]);
+    assert_eq!([27, 26, 25, 18, 17, 16, 15, 8, 7, 0].map(|n| tried(&whole[..n])), [0, 13, 16, 16, 16, 13, 16, 16, 13, 13]);
+    let record = |kind, depth| tried(&icons(&[&[kind, 1, 1, depth, 0, 0, 0, 0, 7]]));
+    assert_eq!([1, 2, 3, 4].map(|kind| record(kind, 8)), [15, 0, 16, 15]);
+    assert_eq!([1, 2, 3, 4].map(|kind| record(kind, 16)), [14; 4]);
+    assert_eq!(tried(&[b"\xDE\xAD\xFA\xCE", &whole[4..]].concat()), 13);
 }
 
 #[test]
