@@ -13,15 +13,16 @@ extern crate alloc;
 #[allow(warnings)]
 #[path = "../oracle/src/wie.rs"]
 mod canvas;
+mod race;
 mod shapes;
 
 use std::hint::black_box;
-use std::time::{Duration, Instant};
 
 use canvas::{
     AbgrPixel, ArgbPixel, Canvas, Clip, Color, Image, ImageBufferCanvas, PixelType, Rgb8Pixel, Rgb332Pixel, Rgb565Pixel,
     VecImageBuffer,
 };
+use race::race;
 
 const WIDTH: u32 = 240;
 const HEIGHT: u32 = 320;
@@ -31,9 +32,6 @@ const WHOLE: Clip = Clip { x: 0, y: 0, width: WIDTH, height: HEIGHT };
 const INNER: Clip = Clip { x: 10, y: 10, width: WIDTH - 20, height: HEIGHT - 20 };
 const NAMES: [&str; 5] = ["332", "565", "RGB8", "ARGB", "ABGR"];
 const SIZES: [u32; 5] = [1, 2, 4, 4, 4];
-
-const SAMPLES: u32 = 150;
-const SAMPLE: Duration = Duration::from_micros(400);
 
 unsafe extern "C" {
     fn tuyrashka_fill_rect(
@@ -318,25 +316,6 @@ fn every_point(mut at: impl FnMut(i32, i32)) {
             at(x, y);
         }
     }
-}
-
-/// The least time of one pass on each side, taken by turns.
-fn race(mut rust: impl FnMut(), mut ours: impl FnMut()) -> [f64; 2] {
-    let sides: [&mut dyn FnMut(); 2] = [&mut rust, &mut ours];
-    let mut best = [f64::INFINITY; 2];
-    let mut passes = [1u32; 2];
-    for _ in 0..SAMPLES {
-        for side in 0..2 {
-            let start = Instant::now();
-            (0..passes[side]).for_each(|_| sides[side]());
-            let took = start.elapsed();
-            best[side] = best[side].min(took.as_nanos() as f64 / passes[side] as f64);
-            if took < SAMPLE {
-                passes[side] *= 2;
-            }
-        }
-    }
-    best
 }
 
 /// Times of a pass that lands so many pixels.

@@ -12,15 +12,14 @@ extern crate alloc;
 #[allow(warnings)]
 #[path = "../oracle/src/wie.rs"]
 mod canvas;
+mod race;
 
 use std::hint::black_box;
-use std::time::{Duration, Instant};
+
+use race::race;
 
 const SIDES: [(u32, u32); 4] = [(240, 320), (16, 16), (5, 7), (1, 1)];
 const TYPES: [u32; 3] = [2, 8, 16];
-
-const SAMPLES: u32 = 150;
-const SAMPLE: Duration = Duration::from_micros(400);
 
 unsafe extern "C" {
     fn tuyrashka_decode_lbmp(
@@ -63,25 +62,6 @@ fn file(kind: u32, width: u32, height: u32, mask: u32) -> Vec<u8> {
 
 fn rust(file: &[u8]) {
     _ = black_box(canvas::lbmp(black_box(file)).is_ok());
-}
-
-/// The least time of one pass on each side, taken by turns.
-fn race(mut rust: impl FnMut(), mut ours: impl FnMut()) -> [f64; 2] {
-    let sides: [&mut dyn FnMut(); 2] = [&mut rust, &mut ours];
-    let mut best = [f64::INFINITY; 2];
-    let mut passes = [1u32; 2];
-    for _ in 0..SAMPLES {
-        for side in 0..2 {
-            let start = Instant::now();
-            (0..passes[side]).for_each(|_| sides[side]());
-            let took = start.elapsed();
-            best[side] = best[side].min(took.as_nanos() as f64 / passes[side] as f64);
-            if took < SAMPLE {
-                passes[side] *= 2;
-            }
-        }
-    }
-    best
 }
 
 fn row(kind: u32, (width, height): (u32, u32), mask: u32) {

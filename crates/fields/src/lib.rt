@@ -10,18 +10,19 @@ fn wide(x: u8) -> u32
     x as u32
 }
 
-pub fn u8_at(b: &[u8], o: usize) -> u32
-    requires { ⌜ o + 1 ≤ length (now b) ⌝ }
-    ensures { λ r. ⌜ (r ≡ u8At (now (b .entry)) o) × (r < 256) ⌝ }
+pub fn u8_at(b: &[u8], i: usize) -> u32
+    requires { ⌜ i + 1 ≤ length (now b) ⌝ }
+    ensures { λ r. ⌜ (r ≡ u8At (now (b .entry)) i) × (r < 256) ⌝ }
 {
-    wide(b[o])
+    wide(b[i])
 }
 
+// One sum, which the compiler reads as one load.
 pub fn u16_at(b: &[u8], o: usize) -> u32
     requires { ⌜ o + 2 ≤ length (now b) ⌝ }
     ensures { λ r. ⌜ (r ≡ u16At (now (b .entry)) o) × (r < 65536) ⌝ }
 {
-    u8_at(b, o) + 256 * u8_at(b, o + 1)
+    wide(b[o]) + 256 * wide(b[o + 1])
 }
 
 pub fn u32_at(b: &[u8], o: usize) -> u32

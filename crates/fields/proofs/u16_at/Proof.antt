@@ -5,14 +5,20 @@ use Rattle.fields.specs.Fields.{u16At}
 use Rattle.fields.proofs.u16_at.Statement.{statement}
 use Rattle.fields.proofs.u16_at.Tie as tie
 
-u8-at-requires : tie.Need-u8-at-requires
-u8-at-requires c κs = search needs
+shared-slice-read-wide : tie.Need-shared-slice-read-wide
+shared-slice-read-wide c = search needs
 
-add-u8-at : tie.Need-add-u8-at
-add-u8-at c = search needs
+wide-requires : tie.Need-wide-requires
+wide-requires c κs = search needs
 
-u8-at-requires-2 : tie.Need-u8-at-requires-2
-u8-at-requires-2 c κs = search needs
+add-wide : tie.Need-add-wide
+add-wide c = search needs
+
+shared-slice-read-wide-2 : tie.Need-shared-slice-read-wide-2
+shared-slice-read-wide-2 c = search needs
+
+wide-requires-2 : tie.Need-wide-requires-2
+wide-requires-2 c κs = search needs
 
 mul-result : tie.Need-mul-result
 mul-result c = search needs
@@ -28,9 +34,11 @@ pub u16-at-spec : {M : Type 1} → statement M
 u16-at-spec =
     tie.close
     (tie.spec
-    u8-at-requires
-    add-u8-at
-    u8-at-requires-2
+    shared-slice-read-wide
+    wide-requires
+    add-wide
+    shared-slice-read-wide-2
+    wide-requires-2
     mul-result
     add-result
     returns)
