@@ -7,12 +7,11 @@ use native.Mathlib.Omega.{arith}
 use native.Mathlib.Nat.{lt-of-not-le}
 use native.Mathlib.Decide.{decLe}
 use borrow.Author.Tests.{ltb-false}
-use lib.Dec.{ltb, eqb}
+use lib.Dec.{ltb}
 use lib.ListN.{length}
 use Rattle.res.specs.declared.Refusal.{Refusal}
-use Rattle.res.specs.declared.Refusal.the-variants.{Res, NoIcon}
+use Rattle.res.specs.declared.Refusal.the-variants.{Res}
 use Rattle.res.specs.declared.Icon.{Icon}
-use Rattle.res.specs.declared.Found.{Found}
 use Rattle.res.specs.declared.Found.the-variants.{Refused, Here}
 use Rattle.res.specs.declared.records.Step.{Step}
 use Rattle.res.specs.declared.records.Step.the-variants as step
