@@ -1,5 +1,7 @@
--- What is accepted: a record of type 2 and depth 8 that stands whole in the file, so that its pixels are a part of it.
-use mathlib.Core.Path.{_≡_, sym, ap, subst, _∙_}
+-- What is accepted: a record of type 2 and depth 8 that stands whole in the file, so that its pixels are a part of it; and
+-- the first record that does not lead on decides.
+use mathlib.Core.Path.{_≡_, refl, sym, ap, subst, _∙_}
+use mathlib.Core.Bool.{true}
 use mathlib.Core.List.{List, []}
 use Prim.Native.Nat.{ℕ, zero, suc, _+_, _-_, _*_, _≤_}
 use native.Mathlib.Omega.{arith}
@@ -13,7 +15,25 @@ use Rattle.res.specs.declared.records.Step.{Step}
 use Rattle.res.specs.declared.records.Step.the-variants as step
 use Rattle.res.specs.Record.{isRes, firstRecord, stepAt}
 use Rattle.res.specs.Search.{follow, search, firstIcon, part, iconPixels}
+use Rattle.res.proofs.Search.{Left, begun, leads, ends-here, ends-refused}
 use Rattle.res.proofs.records.Steps.{Static, Tells, tells, either}
+
+-- The records from one place to another, each leading to the next.
+pub data Leads (f : List ℕ) : ℕ → ℕ → Type 0 where
+  there : {at : ℕ} → Leads f at at
+  onward : {at k to : ℕ} → stepAt f at ≡ step.Next k → Leads f k to → Leads f at to
+
+followed : {f : List ℕ} {at to : ℕ} → Left f at → Leads f at to → Left f to
+followed l there = l
+followed {f} {at} l (onward {k = k} e p) = followed (leads f at l k e) p
+
+-- Where the records of a RES file lead to a static one, its icon is the answer; where they lead to a fault, the fault.
+module _ (f : List ℕ) (at : ℕ) (s : isRes f ≡ true) (p : Leads f (firstRecord f) at) where
+  pub found-at : (i : Icon) → stepAt f at ≡ step.Here i → firstIcon f ≡ Here i
+  found-at i e = sym (ends-here f at (followed (begun f (firstRecord f) s refl) p) i e)
+
+  pub refused-at : (r : Refusal) → stepAt f at ≡ step.Fault r → firstIcon f ≡ Refused r
+  refused-at r e = sym (ends-refused f at (followed (begun f (firstRecord f) s refl) p) r e)
 
 -- A static record of the file whose icon this is.
 pub record Stands (f : List ℕ) (i : Icon) : Type 0 where
