@@ -124,7 +124,7 @@ fn frames() -> u64 {
     tally.say("every number of frames")
 }
 
-/// Every first offset, in a file in which most bytes can begin a record.
+/// Every first offset, in a file in which every second byte is a type.
 fn offsets(random: &mut Random) -> u64 {
     let mut tally = Tally::default();
     let mut file = [start(0), random.dense(66_000)].concat();
