@@ -37,6 +37,7 @@ depth f at = u8At f (at + 3)
 abbrev pub area : List ℕ → ℕ → ℕ
 area f at = width f at * height f at
 
+-- The icon of a record: its sides, and its pixels right behind the eight bytes.
 abbrev pub iconAt : List ℕ → ℕ → Icon
 iconAt f at = record { start = at + 8; width = width f at; height = height f at }
 

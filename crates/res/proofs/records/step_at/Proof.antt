@@ -36,7 +36,7 @@ returns-2 : tie.Need-returns-2
 returns-2 c =
     let l = c .before .before .before in
     let a = l .before .before .before .args in
-    too-deep (a .file .now) (a .at) (uncut _ _ _ (l .before .is-cut .ensures) (l .if1 .left)) (λ q. c .if2 .taken (c .before .u8-at2 .ensures .0 ∙ q))
+    too-deep (a .file .now) (a .at) (uncut _ _ _ (l .before .is-cut .ensures) (l .if1 .left)) (λ q. omega (arith, q, c .before .u8-at2 .ensures .0, c .if2 .taken))
 
 static-at-requires : tie.Need-static-at-requires
 static-at-requires c κs = let l = c .before .before .before .before in uncut _ _ _ (l .before .is-cut .ensures) (l .if1 .left)
@@ -50,7 +50,7 @@ returns-3 c =
     let k = d .before .before in
     let l = k .before in
     c .static-at .ensures ∙ type-static _ _ (sym (k .u8-at .ensures .0) ∙ c .before .match .keys1)
-    ∙ right-depth _ _ (uncut _ _ _ (l .before .is-cut .ensures) (l .if1 .left)) (sym (d .before .u8-at2 .ensures .0) ∙ d .if2 .left)
+    ∙ right-depth _ _ (uncut _ _ _ (l .before .is-cut .ensures) (l .if1 .left)) (omega (arith, d .before .u8-at2 .ensures .0, d .if2 .left))
 
 returns-4 : tie.Need-returns-4
 returns-4 c =
@@ -58,7 +58,7 @@ returns-4 c =
     let k = d .before .before in
     let l = k .before in
     c .moving-at .ensures ∙ type-moving _ _ (sym (k .u8-at .ensures .0) ∙ c .before .match .keys2)
-    ∙ right-depth _ _ (uncut _ _ _ (l .before .is-cut .ensures) (l .if1 .left)) (sym (d .before .u8-at2 .ensures .0) ∙ d .if2 .left)
+    ∙ right-depth _ _ (uncut _ _ _ (l .before .is-cut .ensures) (l .if1 .left)) (omega (arith, d .before .u8-at2 .ensures .0, d .if2 .left))
 
 returns-5 : tie.Need-returns-5
 returns-5 c =
@@ -67,7 +67,7 @@ returns-5 c =
     let l = k .before in
     let a = l .before .before .before .args in
     type-other (a .file .now) (a .at) (λ q. c .match .rest .0 .1 (k .u8-at .ensures .0 ∙ q)) (λ q. c .match .rest .1 (k .u8-at .ensures .0 ∙ q))
-    ∙ right-depth _ _ (uncut _ _ _ (l .before .is-cut .ensures) (l .if1 .left)) (sym (d .before .u8-at2 .ensures .0) ∙ d .if2 .left)
+    ∙ right-depth _ _ (uncut _ _ _ (l .before .is-cut .ensures) (l .if1 .left)) (omega (arith, d .before .u8-at2 .ensures .0, d .if2 .left))
 
 pub step-at-spec : {M : Type 1} → statement M
 step-at-spec =
