@@ -1,14 +1,11 @@
-//! The sine with the cosine, and the arctangents, beside libm's, in one run: the best of nine rounds, in nanoseconds a call.
+//! The sine with the cosine, and the arctangent, beside libm's, in one run: the best of nine rounds, in nanoseconds a call.
 use std::hint::black_box;
 use std::time::Instant;
 
 unsafe extern "C" {
     safe fn angle_sine_cosine(t: f32, sine: &mut f32, cosine: &mut f32);
-    safe fn angle_arctangent(t: &[usize; 513], up: f32, right: f32) -> f32;
-    safe fn angle_arctangent_of_halves(t: &[usize; 513], up: f32, right: f32) -> f32;
+    safe fn angle_arctangent(up: f32, right: f32) -> f32;
 }
-
-include!(env!("NODES"));
 
 const CALLS: u32 = 4_000_000;
 
@@ -21,8 +18,7 @@ fn halves(i: u32) -> (f32, f32) {
 }
 
 fn main() {
-    let table = NODES;
-    let calls: [(&str, &dyn Fn(u32) -> f32); 5] = [
+    let calls: [(&str, &dyn Fn(u32) -> f32); 4] = [
         ("sine with cosine, ours", &|i| {
             let (mut s, mut c) = (0.0, 0.0);
             angle_sine_cosine(black_box(angle(i)), &mut s, &mut c);
@@ -32,20 +28,16 @@ fn main() {
             let t = black_box(angle(i));
             t.sin() + t.cos()
         }),
-        ("arctangent of halves, ours", &|i| {
+        ("arctangent, ours", &|i| {
             let (up, right) = black_box(halves(i));
-            angle_arctangent_of_halves(&table, up, right)
+            angle_arctangent(up, right)
         }),
         ("arctangent, libm", &|i| {
             let (up, right) = black_box(halves(i));
             up.atan2(right).to_degrees()
         }),
-        ("arctangent of all, ours", &|i| {
-            let (up, right) = black_box(halves(i));
-            angle_arctangent(&table, up, right)
-        }),
     ];
-    let mut best = [f64::MAX; 5];
+    let mut best = [f64::MAX; 4];
     for _ in 0..9 {
         for (n, (_, call)) in calls.iter().enumerate() {
             let start = Instant::now();
@@ -57,5 +49,5 @@ fn main() {
     for ((name, _), time) in calls.iter().zip(best) {
         println!("{name}: {time:.1} ns");
     }
-    println!("ours to libm's: {:.2}, {:.2} and {:.2}", best[0] / best[1], best[2] / best[3], best[4] / best[3]);
+    println!("ours to libm's: {:.2} and {:.2}", best[0] / best[1], best[2] / best[3]);
 }

@@ -3,7 +3,7 @@
 use std::hint::black_box;
 
 use crate::canvas::{Canvas, Clip};
-use crate::{COLOR, Ours, pair_of, race, row, word};
+use crate::{COLOR, Ours, pair_of, race, row, same, word};
 
 /// A screen on which every line has 320 plots.
 const SIDE: u32 = 320;
@@ -114,33 +114,38 @@ unsafe extern "C" {
 #[derive(Clone, Copy)]
 enum Shape {
     Line([i32; 4]),
-    /// Start and sweep, of a box of 200 by 200.
-    Arc(i32, i32),
-    Pie(i32, i32),
-    /// The arc size both ways, of the same box.
-    RoundRect(u32),
-    FillRoundRect(u32),
+    /// The box's side, start and sweep.
+    Arc(u32, i32, i32),
+    Pie(u32, i32, i32),
+    /// The box's side and the arc size both ways.
+    RoundRect(u32, u32),
+    FillRoundRect(u32, u32),
 }
 
 use Shape::{Arc, FillRoundRect, Line, Pie, RoundRect};
 
 const AT: i32 = 60;
-const BOX: u32 = 200;
 
-const SHAPES: [(&str, Shape); 13] = [
+const SHAPES: [(&str, Shape); 19] = [
     ("shallow", Line([0, 100, 319, 200])),
     ("steep", Line([100, 0, 200, 319])),
     ("diagonal", Line([0, 0, 319, 319])),
     ("horizontal", Line([0, 100, 319, 100])),
     ("vertical", Line([100, 0, 100, 319])),
-    ("arc", Arc(0, 360)),
-    ("part-arc", Arc(30, 170)),
-    ("pie", Pie(0, 360)),
-    ("part-pie", Pie(30, 170)),
-    ("corners", RoundRect(40)),
-    ("round", RoundRect(200)),
-    ("filled-corners", FillRoundRect(40)),
-    ("filled-round", FillRoundRect(200)),
+    ("arc", Arc(200, 0, 360)),
+    ("part-arc", Arc(200, 30, 170)),
+    ("pie", Pie(200, 0, 360)),
+    ("part-pie", Pie(200, 30, 170)),
+    ("pie-20", Pie(20, 0, 360)),
+    ("part-pie-20", Pie(20, 30, 170)),
+    ("pie-10", Pie(10, 0, 360)),
+    ("part-pie-10", Pie(10, 30, 170)),
+    ("corners", RoundRect(200, 40)),
+    ("round", RoundRect(200, 200)),
+    ("filled-corners", FillRoundRect(200, 40)),
+    ("filled-round", FillRoundRect(200, 200)),
+    ("filled-corners-20", FillRoundRect(20, 10)),
+    ("filled-corners-10", FillRoundRect(10, 10)),
 ];
 
 impl Shape {
@@ -150,8 +155,8 @@ impl Shape {
             Line(_) => ("draw_line", cfg!(op = "line")),
             Arc(..) => ("draw_arc", cfg!(op = "arc")),
             Pie(..) => ("fill_arc", cfg!(op = "pie")),
-            RoundRect(_) => ("draw_round_rect", cfg!(op = "rrect")),
-            FillRoundRect(_) => ("fill_round_rect", cfg!(op = "frrect")),
+            RoundRect(..) => ("draw_round_rect", cfg!(op = "rrect")),
+            FillRoundRect(..) => ("fill_round_rect", cfg!(op = "frrect")),
         }
     }
 
@@ -159,10 +164,10 @@ impl Shape {
         let canvas = black_box(canvas);
         match self {
             Line([x1, y1, x2, y2]) => canvas.draw_line(x1, y1, x2, y2, COLOR, WHOLE),
-            Arc(start, sweep) => canvas.draw_arc(AT, AT, BOX, BOX, start, sweep, COLOR, WHOLE),
-            Pie(start, sweep) => canvas.fill_arc(AT, AT, BOX, BOX, start, sweep, COLOR, WHOLE),
-            RoundRect(arc) => canvas.draw_round_rect(AT, AT, BOX, BOX, arc, arc, COLOR, WHOLE),
-            FillRoundRect(arc) => canvas.fill_round_rect(AT, AT, BOX, BOX, arc, arc, COLOR, WHOLE),
+            Arc(w, start, sweep) => canvas.draw_arc(AT, AT, w, w, start, sweep, COLOR, WHOLE),
+            Pie(w, start, sweep) => canvas.fill_arc(AT, AT, w, w, start, sweep, COLOR, WHOLE),
+            RoundRect(w, arc) => canvas.draw_round_rect(AT, AT, w, w, arc, arc, COLOR, WHOLE),
+            FillRoundRect(w, arc) => canvas.fill_round_rect(AT, AT, w, w, arc, arc, COLOR, WHOLE),
         }
     }
 
@@ -171,25 +176,25 @@ impl Shape {
     fn ours(self, on: &mut Ours) -> u64 {
         let (mut count, data, length) = (0, on.bytes.as_mut_ptr(), on.bytes.len());
         let (f, xor, k, n) = (on.format, on.xor, word(COLOR), &mut count);
-        let (s, x, w, Clip { x: cx, y: cy, width: cw, height: ch }) = (SIDE, AT, BOX, WHOLE);
+        let (s, x, Clip { x: cx, y: cy, width: cw, height: ch }) = (SIDE, AT, WHOLE);
         let status: u32 = unsafe {
             match self {
                 #[cfg(op = "line")]
                 Line([x1, y1, x2, y2]) => tuyrashka_draw_line(f, s, s, xor, data, length, x1, y1, x2, y2, k, cx, cy, cw, ch, n),
                 #[cfg(op = "arc")]
-                Arc(start, sweep) => {
+                Arc(w, start, sweep) => {
                     tuyrashka_draw_arc(f, s, s, xor, data, length, x, x, w, w, start, sweep, k, cx, cy, cw, ch, n)
                 }
                 #[cfg(op = "pie")]
-                Pie(start, sweep) => {
+                Pie(w, start, sweep) => {
                     tuyrashka_fill_arc(f, s, s, xor, data, length, x, x, w, w, start, sweep, k, cx, cy, cw, ch, n)
                 }
                 #[cfg(op = "rrect")]
-                RoundRect(arc) => {
+                RoundRect(w, arc) => {
                     tuyrashka_draw_round_rect(f, s, s, xor, data, length, x, x, w, w, arc, arc, k, cx, cy, cw, ch, n)
                 }
                 #[cfg(op = "frrect")]
-                FillRoundRect(arc) => {
+                FillRoundRect(w, arc) => {
                     tuyrashka_fill_round_rect(f, s, s, xor, data, length, x, x, w, w, arc, arc, k, cx, cy, cw, ch, n)
                 }
                 other => unreachable!("oracle/ops has not {}", other.what().0),
@@ -204,20 +209,11 @@ fn built() -> impl Iterator<Item = (&'static str, Shape)> {
     SHAPES.into_iter().filter(|(_, shape)| shape.what().1)
 }
 
-/// Of a curve a few points may be at another pixel.
-fn same(shape: Shape, canvas: &dyn Canvas, ours: &Ours) {
-    let bytes = canvas.image().raw();
-    let size = bytes.len() / (SIDE * SIDE) as usize;
-    let apart = bytes.chunks(size).zip(ours.bytes.chunks(size)).filter(|(rust, ours)| rust != ours).count();
-    let most = if matches!(shape, Line(_) | FillRoundRect(_)) { 0 } else { 8 };
-    assert!(apart <= most, "{apart} pixels of {} differ in format {}, XOR {}", shape.what().0, ours.format, ours.xor);
-}
-
 fn timed(note: &str, shape: Shape, format: u32, xor: bool) {
     let (mut canvas, mut ours) = pair_of(format, xor, 7, (SIDE, SIDE));
     shape.rust(&mut *canvas);
     let landed = shape.ours(&mut ours);
-    same(shape, &*canvas, &ours);
+    same(&*canvas, &ours);
     let times = race(|| black_box(shape).rust(&mut *canvas), || _ = black_box(black_box(shape).ours(&mut ours)));
     row(shape.what().0, format, xor, note, landed, times);
 }

@@ -1,10 +1,11 @@
-//! The arctangent, by both calls, against libm's: every small direction, the axes, the diagonals, and others at random.
+//! The arctangent against the Rust's `up.atan2(right).to_degrees()`, bit for bit: `directions [REACH]`. Every direction of halves
+//! up to REACH (6,000), then others at random up to 16,383, which is all of the domain.
 unsafe extern "C" {
-    safe fn angle_arctangent(t: &[usize; 513], up: f32, right: f32) -> f32;
-    safe fn angle_arctangent_of_halves(t: &[usize; 513], up: f32, right: f32) -> f32;
+    safe fn angle_arctangent(up: f32, right: f32) -> f32;
 }
 
-include!(env!("NODES"));
+/// Differences printed in full; the rest are only counted.
+const SHOWN: u64 = 5;
 
 struct Random(u64);
 
@@ -25,10 +26,7 @@ impl Random {
 #[derive(Default)]
 struct Found {
     looked: u64,
-    equal: u64,
-    degrees: f64,
-    beside: f64,
-    behind: u64,
+    differ: u64,
 }
 
 impl Found {
@@ -36,53 +34,55 @@ impl Found {
         if up == 0.0 && right == 0.0 {
             return;
         }
-        let a = angle_arctangent(&NODES, up, right);
-        assert_eq!(a.to_bits(), angle_arctangent_of_halves(&NODES, up, right).to_bits());
-        let (u, r) = (f64::from(up), f64::from(right));
-        let t = f64::from(a * f32::from_bits(0x3C8E_FA35));
-        let (s, c) = (t.sin(), t.cos());
+        let (ours, rust) = (angle_arctangent(up, right), up.atan2(right).to_degrees());
         self.looked += 1;
-        self.equal += u64::from(a.to_bits() == up.atan2(right).to_degrees().to_bits());
-        self.degrees = self.degrees.max((f64::from(a) - u.atan2(r).to_degrees()).abs());
-        self.beside = self.beside.max((r * s - u * c).abs() / (u.abs() + r.abs()));
-        self.behind += u64::from(r * c + u * s <= 0.0 || !(-180.0..=180.0).contains(&a));
+        if ours.to_bits() != rust.to_bits() {
+            self.differ += 1;
+            if self.differ <= SHOWN {
+                println!("{up:?} {right:?}: {ours:?}, not {rust:?}");
+            }
+        }
     }
 
-    fn say(&self, what: &str) {
-        println!(
-            "{what}: {} directions, {} equal to the Rust's; {:.7} degrees from libm's of an f64 at most; |right*S - up*C| at most {:.4} * 2^-18 * (|right|+|up|); {} behind or out of range",
-            self.looked, self.equal, self.degrees, self.beside * 262144.0, self.behind
-        );
+    fn say(&self, what: &str) -> u64 {
+        println!("{what}: {} directions, {} differ", self.looked, self.differ);
+        self.differ
     }
 }
 
-/// The axes and the diagonals are exact, signs of zeros too.
-fn exact() -> u64 {
-    let mut wrong = 0;
-    let mut is = |up: f32, right: f32, a: f32| {
-        let ours = angle_arctangent(&NODES, up, right);
-        if ours.to_bits() != a.to_bits() {
-            wrong += 1;
-            println!("{up:?} {right:?}: {ours:?}, not {a:?}");
-        }
-    };
+/// The axes and the diagonals, with zeros of both signs.
+fn straight() -> u64 {
+    let mut found = Found::default();
     for n in 1..=32_766 {
         let x = n as f32 * 0.5;
-        for (up, a) in [(0.0, 0.0), (-0.0, -0.0)] {
-            is(up, x, a);
-            is(up, -x, if a.is_sign_negative() { -180.0 } else { 180.0 });
+        for size in [x, -x] {
+            for zero in [0.0, -0.0] {
+                found.look(zero, size);
+                found.look(size, zero);
+            }
+            found.look(size, x);
+            found.look(size, -x);
         }
-        for zero in [0.0, -0.0] {
-            is(x, zero, 90.0);
-            is(-x, zero, -90.0);
-        }
-        is(x, x, 45.0);
-        is(x, -x, 135.0);
-        is(-x, x, -45.0);
-        is(-x, -x, -135.0);
     }
-    println!("axes and diagonals: {} directions, {wrong} differ", 12 * 32_766);
-    wrong
+    found.say("axes and diagonals")
+}
+
+fn every(reach: i32) -> u64 {
+    let mut found = Found::default();
+    for up in -2 * reach..=2 * reach {
+        for right in -2 * reach..=2 * reach {
+            found.look(up as f32 * 0.5, right as f32 * 0.5);
+        }
+    }
+    found.say(&format!("up to {reach}"))
+}
+
+fn at_random() -> u64 {
+    let (mut random, mut found) = (Random(88172645463325252), Found::default());
+    for _ in 0..200_000_000u32 {
+        found.look(random.halves(), random.halves());
+    }
+    found.say("at random")
 }
 
 /// Directions with our answers, as bits.
@@ -95,28 +95,17 @@ fn points(n: u32) {
         all.push(if small { ((up as i32 % 40) as f32 * 0.5, (right as i32 % 40) as f32 * 0.5 + 20.0) } else { (up, right) });
     }
     for (up, right) in all {
-        println!("{:08X} {:08X} {:08X}", up.to_bits(), right.to_bits(), angle_arctangent(&NODES, up, right).to_bits());
+        println!("{:08X} {:08X} {:08X}", up.to_bits(), right.to_bits(), angle_arctangent(up, right).to_bits());
     }
 }
 
 fn main() {
-    let words: Vec<String> = std::env::args().collect();
-    if let [_, what, n] = &words[..] {
-        assert_eq!(what, "--points");
-        return points(n.parse().unwrap());
-    }
-    let wrong = exact();
-    let mut small = Found::default();
-    for up in -1500..=1500 {
-        for right in -1500..=1500 {
-            small.look(up as f32 * 0.5, right as f32 * 0.5);
-        }
-    }
-    small.say("up to 750");
-    let (mut random, mut found) = (Random(88172645463325252), Found::default());
-    for _ in 0..200_000_000u32 {
-        found.look(random.halves(), random.halves());
-    }
-    found.say("at random");
-    std::process::exit(i32::from(wrong + small.behind + found.behind > 0));
+    let words: Vec<String> = std::env::args().skip(1).collect();
+    let reach = match &words[..] {
+        [what, n] if what == "--points" => return points(n.parse().unwrap()),
+        [reach] => reach.parse().unwrap(),
+        _ => 6_000,
+    };
+    let differ = straight() + every(reach) + at_random();
+    std::process::exit(i32::from(differ > 0));
 }

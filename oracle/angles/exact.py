@@ -62,7 +62,7 @@ def turns(lines):
         for i, answer in enumerate((s, c)):
             worst[i] = max(worst[i], abs(Fraction(answer) - both[i]))
             assert abs(Fraction(answer) - both[i]) <= Fraction(1, 2**20), line
-        assert t != 0 or (s == 0 and math.copysign(1, s) == 1), line
+        assert t != 0 or (s == 0 and math.copysign(1, s) == math.copysign(1, t)), line
     for j in range(-33, 34):
         tie = j * HD + HD // 2
         assert tuple(Fraction(x, WHOLE) for x in text(tie)) == meaning(Fraction(tie, D)), j

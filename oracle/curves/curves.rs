@@ -1,153 +1,59 @@
-//! Curves against the Rust, by the static library: `curves SIDE`. The everyday arcs, and every pie up to SIDE by SIDE whose
-//! edges are at multiples of 15 degrees. A point may differ only by the rule of oracle/src/rule.rs.
+//! Curves against the Rust, by the static library: `curves SIDE`. The everyday arcs; every pie up to SIDE by SIDE whose edges
+//! are at multiples of 15 degrees; and arcs and pies as big as phones' screens, at every whole degree.
 
 extern crate alloc;
 
-#[path = "../src/answer.rs"]
-mod answer;
-#[allow(warnings)]
-#[path = "../src/wie.rs"]
-mod canvas;
-#[path = "../src/case.rs"]
-mod case;
-#[path = "../src/differ.rs"]
-mod differ;
-#[path = "../src/icons.rs"]
-mod icons;
 #[allow(dead_code)]
-#[path = "../src/rule.rs"]
-mod rule;
-#[path = "../src/tally.rs"]
-mod tally;
+#[path = "../src"]
+mod oracle {
+    pub mod answer;
+    #[allow(warnings)]
+    #[path = "wie.rs"]
+    pub mod canvas;
+    pub mod case;
+    pub mod icons;
+    pub mod library;
+    pub mod tally;
+}
+#[allow(dead_code)]
+#[path = "../../rust/src/lib.rs"]
+mod tuyrashka;
 
 use std::process::ExitCode;
 
-use case::{Area, Call, Case};
-use differ::{count, permitted};
+use oracle::{answer, canvas, case, icons, library, tally};
 
-type Shape = unsafe extern "C" fn(
-    format: u32,
-    width: u32,
-    height: u32,
-    xor: bool,
-    data: *mut u8,
-    length: usize,
-    x: i32,
-    y: i32,
-    w: u32,
-    h: u32,
-    start: i32,
-    sweep: i32,
-    argb: u32,
-    clip_x: i32,
-    clip_y: i32,
-    clip_w: u32,
-    clip_h: u32,
-    count: *mut u64,
-) -> u32;
-
-unsafe extern "C" {
-    fn tuyrashka_draw_arc(
-        format: u32,
-        width: u32,
-        height: u32,
-        xor: bool,
-        data: *mut u8,
-        length: usize,
-        x: i32,
-        y: i32,
-        w: u32,
-        h: u32,
-        start: i32,
-        sweep: i32,
-        argb: u32,
-        clip_x: i32,
-        clip_y: i32,
-        clip_w: u32,
-        clip_h: u32,
-        count: *mut u64,
-    ) -> u32;
-    fn tuyrashka_fill_arc(
-        format: u32,
-        width: u32,
-        height: u32,
-        xor: bool,
-        data: *mut u8,
-        length: usize,
-        x: i32,
-        y: i32,
-        w: u32,
-        h: u32,
-        start: i32,
-        sweep: i32,
-        argb: u32,
-        clip_x: i32,
-        clip_y: i32,
-        clip_w: u32,
-        clip_h: u32,
-        count: *mut u64,
-    ) -> u32;
-}
-
-/// The library's answer to a line with an arc or a pie.
-fn ours(line: &str) -> String {
-    let Some(Case { mut screen, xor, op, call }) = Case::read(line.as_bytes()) else { return "bad".into() };
-    let (shape, Area(x, y, w, h), start, sweep): (Shape, Area, i32, i32) = match call {
-        Call::Arc { at, start, sweep, .. } => (tuyrashka_draw_arc, at, start, sweep),
-        Call::Pie { at, start, sweep, .. } => (tuyrashka_fill_arc, at, start, sweep),
-        _ => return "bad".into(),
-    };
-    let Some((color, clip)) = call.ink() else { return "bad".into() };
-    let argb = u32::from_be_bytes([color.a, color.r, color.g, color.b]);
-    let (data, length, mut count) = (screen.bytes.as_mut_ptr(), screen.bytes.len(), 0);
-    let (format, width, height) = (screen.format, screen.width, screen.height);
-    let (cx, cy, cw, ch) = (clip.x, clip.y, clip.width, clip.height);
-    let status =
-        unsafe { shape(format, width, height, xor, data, length, x, y, w, h, start, sweep, argb, cx, cy, cw, ch, &mut count) };
-    format!("{op} status={status} count={count} hash={:016x}", answer::hash(&screen.bytes))
-}
+/// Differences printed in full; the rest are only counted.
+const SHOWN: u64 = 5;
 
 #[derive(Default)]
 struct Tally {
     shapes: u64,
     points: u64,
-    allowed: u64,
-    moved: u64,
     differ: u64,
 }
 
 impl Tally {
     fn look(&mut self, line: &str) {
-        let (ours_now, rust) = (ours(line), answer::answer(line.as_bytes()));
+        let (ours, rust) = (library::answer(line), answer::answer(line.as_bytes()));
         self.shapes += 1;
-        self.points += count(&rust).unwrap_or(0);
-        if ours_now == rust {
-            return;
-        }
-        let mut ask = |lines: &[String]| lines.iter().map(|line| ours(line)).collect();
-        if let Some(points) = permitted(line, &ours_now, &rust, &mut ask) {
-            self.allowed += 1;
-            self.moved += points;
-            return;
-        }
-        self.differ += 1;
-        if self.differ <= 5 {
-            println!("case: {line}\n  ours: {ours_now}\n  Rust: {rust}");
+        self.points += rust.split(' ').find_map(|word| word.strip_prefix("count=")?.parse::<u64>().ok()).unwrap_or(0);
+        self.differ += (ours != rust) as u64;
+        if ours != rust && self.differ <= SHOWN {
+            println!("case: {line}\n  ours: {ours}\n  Rust: {rust}");
         }
     }
 
     fn say(&self, what: &str) -> u64 {
-        let Tally { shapes, points, allowed, moved, differ } = self;
-        println!(
-            "{what}: {shapes}, {points} points landed, {moved} of them elsewhere in {allowed}, where they may; {differ} differ otherwise"
-        );
+        let Tally { shapes, points, differ } = self;
+        println!("{what}: {shapes}, {points} points landed; {differ} differ");
         *differ
     }
 }
 
 const WHITE: &str = "255 255 255 255";
 
-/// Those of oracle/angles/strokes.rs, once with XOR off and once with XOR on.
+/// Circles of 1 to 320 at five places, once with XOR off and once with XOR on.
 fn everyday() -> u64 {
     let mut tally = Tally::default();
     for xor in [0, 1] {
@@ -175,9 +81,23 @@ fn pies(most: u32) -> u64 {
     tally.say(&format!("pies up to {most} by {most}"))
 }
 
+/// In each box that is at most three less than a screen, on both axes alike.
+fn screens() -> u64 {
+    let mut tally = Tally::default();
+    for (w, h) in [(96, 64), (101, 80), (120, 160), (128, 128), (176, 220), (240, 320)] {
+        for (less, start) in (0..=3).flat_map(|less| (0..360).map(move |start| (less, start))) {
+            let at = format!("0 0 {} {}", w - less, h - less);
+            tally.look(&format!("0 {w} {h} 0 z pie {at} {start} 90 {WHITE} 0 0 {w} {h}"));
+            tally.look(&format!("0 {w} {h} 1 z arc {at} {start} 90 {WHITE} 0 0 {w} {h}"));
+            tally.look(&format!("0 {w} {h} 1 z arc {at} 0 {} {WHITE} 0 0 {w} {h}", -start));
+        }
+    }
+    tally.say("arcs and pies of phones' screens")
+}
+
 fn main() -> ExitCode {
     let words: Vec<String> = std::env::args().skip(1).collect();
     let [most] = &words[..] else { panic!("curves SIDE") };
-    let differ = everyday() + pies(most.parse().expect("a number"));
+    let differ = everyday() + pies(most.parse().expect("a number")) + screens();
     if differ == 0 { ExitCode::SUCCESS } else { ExitCode::FAILURE }
 }

@@ -1,5 +1,5 @@
 //! Lists of XOR calls, by the static library and by the Rust: `lists N SEED`. Each list is drawn in two orders, and once
-//! more to take it away. Between ours and the Rust's, points may differ only by the rule of oracle/src/rule.rs.
+//! more to take it away.
 
 extern crate alloc;
 
@@ -10,10 +10,9 @@ mod oracle {
     #[path = "wie.rs"]
     pub mod canvas;
     pub mod case;
-    pub mod differ;
     pub mod icons;
+    pub mod library;
     pub mod random;
-    pub mod rule;
     pub mod tally;
 }
 mod sides;
@@ -23,13 +22,13 @@ mod tuyrashka;
 
 use std::process::ExitCode;
 
-use oracle::{answer, canvas, case, differ, icons, rule, tally};
+use oracle::{answer, canvas, case, icons, tally};
 
-use answer::{answer, landed, refusal};
+use answer::{landed, refusal};
 use case::{Call, Case, Screen};
-use differ::permitted;
+use oracle::library::{Answer, ours};
 use oracle::random::Chance;
-use sides::{Answer, answer_line, mark_ours, mark_rust, ours, rust};
+use sides::{mark, rust};
 
 /// The calls that plot or draw an image.
 const OPS: [&str; 9] = ["put", "line", "rect", "fill", "rrect", "frrect", "arc", "pie", "draw"];
@@ -84,43 +83,18 @@ impl List {
         rust(&self.screen_of(bytes), order.iter().map(|&i| &self.calls[i]))
     }
 
-    /// The Rust draws them, and ours some.
-    fn mixed(&self, by_ours: &[bool]) -> Vec<u8> {
-        let draw = |bytes: Vec<u8>, &i: &usize| if by_ours[i] { self.ours(&[i], &bytes).0 } else { self.rust(&[i], &bytes) };
-        self.order.iter().fold(self.screen.bytes.clone(), draw)
-    }
-
     fn screen_of(&self, bytes: &[u8]) -> Screen {
         Screen { bytes: bytes.to_vec(), ..self.screen }
     }
 
-    /// The calls that ours draws otherwise than the Rust, if each may, and how many points do.
-    fn moved(&self) -> Option<(Vec<bool>, u64)> {
-        let mut points = 0;
-        let mut otherwise = |line: &String| {
-            let (ours, rust) = (answer_line(line), answer(line.as_bytes()));
-            if ours == rust {
-                return Some(false);
-            }
-            let mut ask = |lines: &[String]| lines.iter().map(|line| answer_line(line)).collect();
-            points += permitted(line, &ours, &rust, &mut ask)?;
-            Some(true)
-        };
-        let calls = self.lines.iter().map(&mut otherwise).collect::<Option<Vec<bool>>>()?;
-        Some((calls, points))
-    }
-
     /// The first bytes, with alpha 255 where a plot of another alpha than 0 landed, in the formats that keep it.
-    fn settled(&self, by_ours: &[bool]) -> Vec<u8> {
+    fn settled(&self) -> Vec<u8> {
         let mut bytes = self.screen.bytes.clone();
         if self.screen.format < 3 {
             return bytes;
         }
         let mut marks = vec![false; bytes.len() / 4];
-        for (call, &by_ours) in self.calls.iter().zip(by_ours) {
-            let mark = if by_ours { mark_ours } else { mark_rust };
-            mark(&self.screen, call, &mut marks);
-        }
+        self.calls.iter().for_each(|call| mark(&self.screen, call, &mut marks));
         let alphas = bytes.iter_mut().skip(3).step_by(4);
         alphas.zip(marks).filter(|(_, marked)| *marked).for_each(|(alpha, _)| *alpha = 255);
         bytes
@@ -157,9 +131,6 @@ struct Tally {
     plots: u64,
     /// Lists that leave other bytes than the first.
     seen: u64,
-    /// Lists in which a point is elsewhere than the Rust's, where it may, and how many are.
-    allowed: u64,
-    moved: u64,
 }
 
 impl Tally {
@@ -173,18 +144,13 @@ impl Tally {
         let theirs = list.rust(order, bytes);
         hold(theirs == list.rust(other, bytes), "the Rust leaves other bytes in the other order")?;
 
-        let (expected, none) = (list.expected(), vec![false; order.len()]);
+        let expected = list.expected();
         self.count(&expected, first != *bytes);
-        let mut by_ours = none.clone();
-        if first != theirs || answers != expected {
-            let (calls, points) = list.moved().ok_or("ours and the Rust differ where they may not")?;
-            hold(list.mixed(&calls) == first, "more differs than the points that may")?;
-            self.allowed += 1;
-            self.moved += points;
-            by_ours = calls;
-        }
-        hold(list.ours(other, &first).0 == list.settled(&by_ours), "ours does not take the list away")?;
-        hold(list.rust(other, &theirs) == list.settled(&none), "the Rust does not take the list away")
+        hold(first == theirs, "ours leaves other bytes than the Rust")?;
+        hold(answers == expected, "ours answers otherwise than the Rust")?;
+        let settled = list.settled();
+        hold(list.ours(other, &first).0 == settled, "ours does not take the list away")?;
+        hold(list.rust(other, &theirs) == settled, "the Rust does not take the list away")
     }
 
     fn count(&mut self, answers: &[Answer], seen: bool) {
@@ -196,10 +162,10 @@ impl Tally {
     }
 
     fn say(&self, seed: u64, failed: u64) {
-        let Tally { lists, calls, refused, plots, seen, allowed, moved } = self;
+        let Tally { lists, calls, refused, plots, seen } = self;
         println!(
             "{lists} lists (seed {seed}) in two orders and twice: {calls} calls, {refused} of them refused, {plots} plots landed, \
-             {seen} lists seen; {moved} points elsewhere in {allowed} lists, where they may; {failed} lists fail"
+             {seen} lists seen; {failed} lists fail"
         );
     }
 }

@@ -10,7 +10,6 @@ use crate::canvas::{
 };
 use crate::case::{Area, Call, Case, Screen, pixel_size};
 use crate::icons::{number, place};
-use crate::rule::Pixel;
 use crate::tally::Tally;
 
 /// `bad` for a line that cannot be read, and `panic` where the Rust panics.
@@ -41,24 +40,6 @@ fn answered(case: &Case) -> String {
     canvas.set_xor_mode(*xor);
     paint(&mut *canvas, call);
     format!("{op} status=0 count={} hash={:016x}", landed(screen, call), hash(&canvas.image().raw()))
-}
-
-/// The answer, were these pixels of a stroke or a pie plotted as often as by the port.
-pub fn answer_with(case: &Case, pixels: &[Pixel]) -> String {
-    let Case { screen, xor, op, call } = case;
-    let (Some((color, clip)), Some(size)) = (call.ink(), pixel_size(screen.format)) else { return "bad".into() };
-    let [mut drawn, mut anew] = [canvas(screen), canvas(screen)];
-    drawn.set_xor_mode(*xor);
-    paint(&mut *drawn, call);
-    anew.set_xor_mode(*xor);
-    let (mut bytes, mut count) = (drawn.image().raw().into_owned(), landed(screen, call));
-    for pixel in pixels {
-        (0..pixel.ours).for_each(|_| anew.put_pixel(pixel.x as i32, pixel.y as i32, color, clip));
-        let (at, size) = ((pixel.y as usize * screen.width as usize + pixel.x as usize) * size as usize, size as usize);
-        bytes[at..at + size].copy_from_slice(&anew.image().raw()[at..at + size]);
-        count = count + pixel.ours - pixel.rust;
-    }
-    format!("{op} status=0 count={count} hash={:016x}", hash(&bytes))
 }
 
 /// The Rust has no count. With XOR off each plot that lands is put once, whatever its colour, so the same call is made on

@@ -36,18 +36,6 @@ pub enum Call {
     Res { file: Vec<u8> },
 }
 
-impl Call {
-    /// Of a stroke or a pie.
-    pub fn ink(&self) -> Option<(Color, Clip)> {
-        match *self {
-            Call::Arc { color, clip, .. } | Call::Pie { color, clip, .. } | Call::RoundRect { color, clip, .. } => {
-                Some((color, clip))
-            }
-            _ => None,
-        }
-    }
-}
-
 pub struct Case {
     pub screen: Screen,
     pub xor: bool,

@@ -5,14 +5,8 @@ use std::io::{BufRead, BufReader, BufWriter, Write};
 use std::process::{Child, Command, Stdio};
 use std::thread;
 
-use crate::differ::{count, permitted};
-use crate::random::Cases;
-
 /// Differences printed in full; the rest are only counted.
 const SHOWN: u64 = 20;
-
-/// The calls of which points may differ.
-const CURVES: [&str; 3] = ["arc ", "pie ", "rrect "];
 
 struct Side {
     name: &'static str,
@@ -44,49 +38,30 @@ impl Side {
     }
 }
 
-/// The answers of a program to some lines.
-fn asked(program: &str, lines: &[String]) -> Vec<String> {
-    let mut side = Side::start("asked", program, lines.to_vec().into_iter());
-    let answers = lines.iter().map(|_| side.answer()).collect();
-    ended_well(&mut side);
-    answers
-}
-
 /// What the answers show.
 #[derive(Default)]
 struct Tally {
+    cases: u64,
     landed: u64,
     /// By the number of the refusal.
     refused: BTreeMap<u32, u64>,
     unread: u64,
     differences: u64,
-    permitted: u64,
-    /// Of strokes and pies: the points that land, and those of them that differ and may.
-    points: u64,
-    elsewhere: u64,
 }
 
 impl Tally {
-    /// Whether the answers differ though they may not.
-    fn look(&mut self, case: &str, ours: &str, rust: &[String; 2], port: &str) -> bool {
+    /// Whether the answers differ.
+    fn look(&mut self, ours: &str, rust: &[String; 2]) -> bool {
         let accepted = status(&rust[0]) == Some(0);
+        self.cases += 1;
         self.unread += (rust[0] == "bad") as u64;
         if let Some(number) = status(&rust[0]).filter(|&number| number != 0) {
             *self.refused.entry(number).or_default() += 1;
         }
         self.landed += (accepted && !rust[0].contains(" count=0 ") && !rust[0].contains(" none ")) as u64;
-        if CURVES.iter().any(|op| rust[0].starts_with(op)) {
-            self.points += count(&rust[0]).unwrap_or(0);
-        }
-        if rust.iter().all(|answer| answer == ours) {
-            return false;
-        }
-        let agreed = rust[0] == rust[1];
-        let points = if agreed { permitted(case, ours, &rust[0], &mut |lines| asked(port, lines)) } else { None };
-        self.permitted += points.is_some() as u64;
-        self.elsewhere += points.unwrap_or(0);
-        self.differences += points.is_none() as u64;
-        points.is_none()
+        let differ = rust.iter().any(|answer| answer != ours);
+        self.differences += differ as u64;
+        differ
     }
 }
 
@@ -94,31 +69,31 @@ fn status(answer: &str) -> Option<u32> {
     answer.split(' ').find_map(|word| word.strip_prefix("status="))?.parse().ok()
 }
 
-/// Runs the port and the two builds of the Rust; whether they agree.
-pub fn compare(n: u64, seed: u64, ops: &[&'static str], [port, checked, unchecked]: [&str; 3]) -> bool {
-    let cases = || Cases::new(n, seed, ops);
+/// Runs the port and the two builds of the Rust on the cases; whether they agree.
+pub fn compare<C>(what: &str, cases: impl Fn() -> C, [port, checked, unchecked]: [&str; 3]) -> bool
+where
+    C: Iterator<Item = String> + Send + 'static,
+{
     let mut ours = Side::start("ours", port, cases());
     let mut rust = [Side::start("Rust with overflow checks", checked, cases()), Side::start("Rust without", unchecked, cases())];
     let mut tally = Tally::default();
     for case in cases() {
         let answer = ours.answer();
         let answers = [rust[0].answer(), rust[1].answer()];
-        if tally.look(&case, &answer, &answers, port) && tally.differences <= SHOWN {
+        if tally.look(&answer, &answers) && tally.differences <= SHOWN {
             println!("case: {case}\n  {}: {answer}", ours.name);
             rust.iter().zip(&answers).for_each(|(side, a)| println!("  {}: {a}", side.name));
         }
     }
     let ended = [&mut ours].into_iter().chain(&mut rust).fold(true, |well, side| ended_well(side) && well);
-    let Tally { landed, refused, unread, differences, permitted, points, elsewhere } = tally;
+    let Tally { cases, landed, refused, unread, differences } = tally;
     println!(
-        "compared {n} cases of {} (seed {seed}): {landed} landed or found something, {} refused, {unread} unreadable; \
-         {differences} differences, {permitted} permitted",
-        ops.join(","),
+        "compared {cases} {what}: {landed} landed or found something, {} refused, {unread} unreadable; {differences} differences",
         refused.values().sum::<u64>()
     );
-    println!("refused, by number: {}", refused.iter().map(|(number, n)| format!("{number}: {n}")).collect::<Vec<_>>().join(", "));
-    if points > 0 {
-        println!("strokes and pies: {points} points landed, {elsewhere} of them elsewhere, where they may");
+    if !refused.is_empty() {
+        let numbers: Vec<String> = refused.iter().map(|(number, n)| format!("{number}: {n}")).collect();
+        println!("refused, by number: {}", numbers.join(", "));
     }
     differences == 0 && ended
 }

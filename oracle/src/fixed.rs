@@ -9,9 +9,8 @@ mod lines;
 
 use std::collections::HashSet;
 
-use crate::case::{Case, pixel_size};
+use crate::case::pixel_size;
 use crate::random::Cases;
-use crate::rule::decided;
 
 const MIN: i64 = i32::MIN as i64;
 const MAX: i64 = i32::MAX as i64;
@@ -31,8 +30,19 @@ pub fn fixed(ops: &[&'static str]) -> Vec<String> {
             "line" => lines::line(&mut list),
             "rect" => boxes::rect(&mut list),
             "fill" => fill(&mut list),
-            "arc" | "pie" => curves::angled(op, &mut list),
-            "rrect" | "frrect" => curves::round(op, &mut list),
+            "arc" => {
+                curves::angled(op, &mut list);
+                curves::between(op, &mut list);
+            }
+            "pie" => {
+                curves::angled(op, &mut list);
+                curves::beside(&mut list);
+            }
+            "rrect" => {
+                curves::round(op, &mut list);
+                curves::between(op, &mut list);
+            }
+            "frrect" => curves::round(op, &mut list),
             "copy" => images::copy(&mut list),
             "invert" => boxes::invert(&mut list),
             "draw" => images::draw(&mut list),
@@ -44,15 +54,9 @@ pub fn fixed(ops: &[&'static str]) -> Vec<String> {
     }
     unreadable(&mut list);
     list.extend(Cases::new(300, 1, ops).filter(|case| case.len() <= 200));
-    list.retain(|line| same(line));
     let mut seen = HashSet::new();
     list.retain(|case| seen.insert(case.clone()));
     list
-}
-
-/// Whether the port's answer must be the Rust's.
-fn same(line: &str) -> bool {
-    Case::read(line.as_bytes()).is_none_or(|case| decided(&case.call, (case.screen.width, case.screen.height)))
 }
 
 /// Hex of so many bytes, no two neighbours alike.

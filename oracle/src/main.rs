@@ -1,7 +1,8 @@
 //! The Rust's side of the comparison.
 //!
-//! With no word it answers the lines of standard input. `random N SEED OPS` writes cases, `fixed OPS` the fixed list,
-//! and `compare N SEED OPS PORT CHECKED UNCHECKED` holds the port's program against the two builds of this one.
+//! With no word it answers the lines of standard input. `random N SEED OPS` writes cases, `fixed OPS` the fixed list, and
+//! `edges REACH` the pies of one pixel. `compare` before the words of a list, with PORT CHECKED UNCHECKED after them, holds
+//! the port's program against the two builds of this one.
 
 extern crate alloc;
 
@@ -11,11 +12,10 @@ mod answer;
 mod canvas;
 mod case;
 mod compare;
-mod differ;
+mod edges;
 mod fixed;
 mod icons;
 mod random;
-mod rule;
 mod tally;
 
 use std::io::{self, BufRead, BufWriter, Write, stdin, stdout};
@@ -28,14 +28,27 @@ fn main() -> ExitCode {
         [] => answers(),
         ["random", n, seed, list] => write(random::Cases::new(number(n), number(seed), &ops(list))),
         ["fixed", list] => write(fixed::fixed(&ops(list)).into_iter()),
-        ["compare", n, seed, list, port, checked, unchecked] => {
-            let agree = compare::compare(number(n), number(seed), &ops(list), [port, checked, unchecked]);
-            return if agree { ExitCode::SUCCESS } else { ExitCode::FAILURE };
+        ["edges", reach] => write(edges::cases(number(reach) as i64)),
+        ["compare", "random", n, seed, list, port, checked, unchecked] => {
+            let cases = || random::Cases::new(number(n), number(seed), &ops(list));
+            return compare(&format!("cases of {list} (seed {seed})"), cases, [port, checked, unchecked]);
+        }
+        ["compare", "edges", reach, port, checked, unchecked] => {
+            let reach = number(reach) as i64;
+            let what = format!("pies of one pixel, in {} directions", edges::directions(reach).count());
+            return compare(&what, || edges::cases(reach), [port, checked, unchecked]);
         }
         _ => stop("words not understood"),
     }
     .unwrap_or_else(|error| stop(&format!("not written: {error}")));
     ExitCode::SUCCESS
+}
+
+fn compare<C>(what: &str, cases: impl Fn() -> C, programs: [&str; 3]) -> ExitCode
+where
+    C: Iterator<Item = String> + Send + 'static,
+{
+    if compare::compare(what, cases, programs) { ExitCode::SUCCESS } else { ExitCode::FAILURE }
 }
 
 fn answers() -> io::Result<()> {

@@ -74,6 +74,7 @@ impl Chance {
         match op {
             "lbmp" => return self.lbmp(),
             "res" => return self.res(),
+            "arc" | "pie" | "rrect" if self.percent(1) => return self.on_screen(op),
             _ => (),
         }
         let (w, h) = match op {
@@ -93,14 +94,7 @@ impl Chance {
             "get" => self.point(w, h, wild),
             "line" => format!("{} {} {}", self.line(w, h), self.color(), self.clip(w, h)),
             "rect" | "fill" => format!("{} {} {}", self.area(w, h, wild), self.color(), self.clip(w, h)),
-            "arc" | "pie" => {
-                let (area, angles) = (self.round_area(w, h), format!("{} {}", self.angle(), self.angle()));
-                format!("{area} {angles} {} {}", self.color(), self.clip(w, h))
-            }
-            "rrect" | "frrect" => {
-                let (area, arc) = (self.round_area(w, h), format!("{} {}", self.arc_size(w), self.arc_size(h)));
-                format!("{area} {arc} {} {}", self.color(), self.clip(w, h))
-            }
+            "arc" | "pie" | "rrect" | "frrect" => format!("{} {} {}", self.curve(op, w, h), self.color(), self.clip(w, h)),
             "copy" => self.copy(w, h),
             "invert" => format!("{} {}", self.area(w, h, wild), self.clip(w, h)),
             "draw" => self.draw(w, h),

@@ -44,7 +44,8 @@ at : (s : Bool) (x : ℕ) → Nearest (rest (signed s x))
 unfolding rest
 at s x =
     let o = around-one s x in
-    subst Nearest (sym (ap (λ (z : ℤ). signed s x -ℤ z *ℤ pos H) (k-at s x (o .0) (o .1)) ∙ ap (λ (z : ℤ). signed s x -ℤ z) (product s false (o .0) H ∙ ap (λ (b : Bool). signed b (o .0 * H)) (like s))))
+    subst Nearest
+    (sym (ap (λ (z : ℤ). signed s x -ℤ z *ℤ pos H) (k-at s x (o .0) (o .1)) ∙ ap (λ (z : ℤ). signed s x -ℤ z) (product s false (o .0) H ∙ ap (λ (b : Bool). signed b (o .0 * H)) (like s))))
     (beside s x (o .0) (o .1))
 
 pub nearest : (t : ℤ) → Nearest (rest t)

@@ -31,7 +31,8 @@ up-to-26 nan h = absurd h
 up-to-26 (inf s) h = absurd h
 up-to-26 (fin s m e) h = record { number = tt; size = subst (λ (x : ℕ). x ≤ 26 * D) (sym (size-is s m e)) (kept (m * up e) (down e) (down-pos e) h) }
 
-pub stroke-up-to-26 : (start sweep : ℤ) (i steps : ℕ) → natAbs start ≤ 720 → natAbs sweep ≤ 720 → i ≤ steps → 0 < steps → steps ≤ 16 * 65534 → UpTo26 (strokeAngle (radians start) (radians sweep) i steps)
+pub stroke-up-to-26 : (start sweep : ℤ) (i steps : ℕ) → natAbs start ≤ 720 → natAbs sweep ≤ 720 → i ≤ steps → 0 < steps → steps ≤ 16 * 65534
+    → UpTo26 (strokeAngle (radians start) (radians sweep) i steps)
 unfolding strokeAngle radiansOf ofInt
 stroke-up-to-26 start sweep i steps a b h p k =
     up-to-26 (strokeAngle (radians start) (radians sweep) i steps)

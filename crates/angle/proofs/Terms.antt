@@ -33,7 +33,7 @@ coef-next : (m : ℕ) → m < 16 → coef m ≡ suc m * suc (suc m) * (D * D) * 
 unfolding next
 coef-next m h = eqb→eq (coef m) (suc m * suc (suc m) * (D * D) * coef (suc (suc m))) (at next (0 ∷ 0 ∷ 0 ∷ 0 ∷ 0 ∷ 0 ∷ 0 ∷ 0 ∷ 0 ∷ 0 ∷ 0 ∷ 0 ∷ 0 ∷ 0 ∷ 0 ∷ 0 ∷ []) all m h)
 
-one-next : (m x : ℕ) → m < 16 → one (suc (suc m)) x * (suc m * suc (suc m) * (D * D)) ≡ one m x * (x * x)
+pub one-next : (m x : ℕ) → m < 16 → one (suc (suc m)) x * (suc m * suc (suc m) * (D * D)) ≡ one m x * (x * x)
 one-next m x h =
     ap (λ (p : ℕ). coef (suc (suc m)) * p * (suc m * suc (suc m) * (D * D))) (pow-suc x (suc m) ∙ ap (λ (p : ℕ). p * x) (pow-suc x m))
     ∙ go (coef (suc (suc m))) (x ^ m) (suc m * suc (suc m) * (D * D))
@@ -48,14 +48,15 @@ module _ (x : ℕ) (xD : x ≤ D) where
   falls m h =
       let e : coef m ≡ suc m * suc (suc m) * (D * D) * coef (suc (suc m)) = coef-next m h in
       let p : x ^ (suc (suc m)) ≡ x ^ m * x * x = pow-suc x (suc m) ∙ ap (λ (p : ℕ). p * x) (pow-suc x m) in
-      go (coef m) (coef (suc (suc m))) (x ^ m) (x ^ (suc (suc m))) (x * x) (D * D) (suc m * suc (suc m)) e (p ∙ mul-assoc (x ^ m) x x) (mul-le-mul xD xD) (mul-pos {m = suc m} {n = suc (suc m)} (omega arith) (omega arith))
+      go (coef m) (coef (suc (suc m))) (x ^ m) (x ^ (suc (suc m))) (x * x) (D * D) (suc m * suc (suc m)) e (p ∙ mul-assoc (x ^ m) x x) (mul-le-mul xD xD)
+      (mul-pos {m = suc m} {n = suc (suc m)} (omega arith) (omega arith))
     where
       go : (c c' p p' y q d : ℕ) → c ≡ d * q * c' → p' ≡ p * y → y ≤ q → 0 < d → c' * p' ≤ c * p
       go c c' p p' y q d e f g h =
           subst (λ (k : ℕ). c' * p' ≤ k * p) (sym e)
           (subst (λ (k : ℕ). c' * k ≤ d * q * c' * p) (sym f) (omega (arith, mul-le-mul-right (c' * p) (mul-le-mul h g))))
 
-  under : (n m : ℕ) → sum n m x ≤ one m x
+  pub under : (n m : ℕ) → sum n m x ≤ one m x
   unfolding sum
   under zero m = zero-le
   under (suc n) m = cut (one m x) (sum n (suc (suc m)) x)

@@ -1,7 +1,13 @@
 -- What the proofs of the sine and the cosine use.
 pub mod Units
-pub mod Rest
+pub mod Numbers
+pub mod Doubles
 pub mod Products
-pub mod Series
+pub mod Powers
+pub mod Coefficients
+pub mod Poly
+pub mod Turns
+pub mod Rest
+pub mod Narrowed
+pub mod Left
 pub mod Within
-pub mod Reduction

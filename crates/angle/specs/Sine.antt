@@ -1,123 +1,146 @@
--- "one written rule that determines the answer": the sine and the cosine in whole numbers, each step rounded down.
--- Definitions only.
-use Prim.Native.Nat.{ℕ, _+_, _-_, _*_, _/_, _%_, _^_, _≤_}
+-- "one written rule that determines the answer": the angle's size brought near 0 by quarters, and the sine and the cosine of the
+-- rest by two polynomials, all in f64, each rounded to f32 once. Definitions only.
+use Prim.Native.Nat.{ℕ, _+_, _-_, _/_, _%_}
 use mathlib.Core.Bool.{Bool, true, false, _&&_, cond}
-use lib.Dec.{ltb}
+use lib.Dec.{leb, ltb}
 use lib.IntN.{pos}
-use lib.Ieee.{Float, fin, binary32, binary64, neg, add, le, toBits, round}
-use Rattle.angle.specs.declared.sine.Reduced.{Reduced}
+use lib.Ieee.{Float, fin, binary32, binary64, neg, add, sub, mul, le, lt, ofBits, toBits}
 use Rattle.angle.specs.declared.sine.SineCosine.{SineCosine}
-use Rattle.angle.specs.Meaning.{fact, placed}
+use Rattle.angle.specs.Meaning.{placed}
 
--- ---- the angle, in units of 2 ^ -46
+-- ---- the angle's size
 
--- H, and half of it, cut.
-abbrev pub hUnits : ℕ
-hUnits = 0x6487_ED51_10B4
-
-abbrev pub halfH : ℕ
-halfH = 0x3243_F6A8_885A
-
--- 26 either way, and the 96 whose sum with an angle has its last digit at 2 ^ -46.
+-- 26 either way.
 abbrev pub least : Float
 least = fin true 13 (pos 1)
 
 abbrev pub most : Float
 most = fin false 13 (pos 1)
 
-abbrev pub ninetySix : Float
-ninetySix = fin false 3 (pos 5)
+abbrev pub zero : Float
+zero = ofBits binary64 0
 
--- t and 32, to the nearest; 32 beyond 26 and for a NaN.
-unfoldable pub unitsOf : Float → ℕ
-unitsOf t = cond (le least t && le t most) (toBits binary64 (add binary64 t ninetySix) - 0x4050_0000_0000_0000) 0x8_0000_0000_0000
+-- The size of t; 0 beyond 26 and for a NaN.
+unfoldable pub sizeOf : Float → Float
+sizeOf t = cond (le least t && le t most) (cond (lt t (ofBits binary32 0)) (neg t) t) zero
 
--- The same, counted from 20 times H and half of it below zero on.
-abbrev pub turnOf : ℕ → ℕ
-turnOf n = n + 0xCE2_80FD_D66A
+-- ---- the quarters nearest to it, and the rest
 
--- 20 more than the k whose multiple of H is nearest to t, which is the same mod 4; whether that multiple is more than t; and
--- the rest, either way.
-unfoldable pub kOf : ℕ → ℕ
-kOf n = turnOf n / hUnits
+-- The f64 nearest to 2 / pi, the quarters in a radian.
+abbrev pub perRadian : Float
+perRadian = ofBits binary64 0x3FE4_5F30_6DC9_C883
 
-unfoldable pub shortOf : ℕ → Bool
-shortOf n = ltb (turnOf n % hUnits) halfH
+-- 1.5 * 2 ^ 52: a sum with it has its last digit at 1, so that its last digits are those of the nearest whole number.
+abbrev pub many : Float
+many = ofBits binary64 0x4338_0000_0000_0000
 
-unfoldable pub restOf : ℕ → ℕ
-restOf n = let q = turnOf n % hUnits in cond (ltb q halfH) (halfH - q) (q - halfH)
+-- x * perRadian + many
+unfoldable pub countedOf : Float → Float
+countedOf x = add binary64 (mul binary64 x perRadian) many
 
--- The three together, and their bounds.
-unfoldable pub reducedOf : Float → Reduced
-reducedOf t = let n = unitsOf t in record { k = kOf n; short = shortOf n; rest = restOf n }
+-- The f64 nearest to a right angle, in two parts: a few quarters times the first are exact.
+abbrev pub high : Float
+high = ofBits binary64 0x3FF9_21FB_5444_2D00
 
-abbrev pub Bounded : Reduced → Type 0
-Bounded a = (a .rest ≤ halfH) × (a .k ≤ 48)
+abbrev pub small : Float
+small = ofBits binary64 0x3CF8_0000_0000_0000
 
--- ---- the series, in units of 2 ^ -31
+-- (x - j * high) - j * small, and its size
+unfoldable pub offOf : Float → Float → Float
+offOf x j = sub binary64 (sub binary64 x (mul binary64 j high)) (mul binary64 j small)
 
--- What stands for 1.
-abbrev pub one31 : ℕ
-one31 = 0x8000_0000
+unfoldable pub sizedOf : Float → Float
+sizedOf d = cond (lt d zero) (neg d) d
 
--- The rest, and its square.
-abbrev pub cutOf : ℕ → ℕ
-cutOf r = r / 2 ^ 15
+-- What is left of x by the quarters nearest to it; it is negative where they are more than x.
+unfoldable pub restOf : Float → Float
+restOf x = offOf x (sub binary64 (countedOf x) many)
 
-abbrev pub squareOf : ℕ → ℕ
-squareOf r = cutOf r * cutOf r / one31
+-- ---- the polynomials, in f64
 
--- z * w, and a less that.
-unfoldable pub timesOf : ℕ → ℕ → ℕ
-timesOf z w = z * w / one31
+abbrev pub one : Float
+one = ofBits binary64 0x3FF0_0000_0000_0000
 
-unfoldable pub lessOf : ℕ → ℕ → ℕ → ℕ
-lessOf a z w = a - timesOf z w
+abbrev pub s1 : Float
+s1 = ofBits binary64 0x3FC5_5554_5995_A603
 
--- 1 / m!
-abbrev pub over : ℕ → ℕ
-over m = one31 / fact m
+abbrev pub s2 : Float
+s2 = ofBits binary64 0x3F81_1076_0523_0BC4
 
--- ---- the answer, in units of 2 ^ -48
+abbrev pub s3 : Float
+s3 = ofBits binary64 0x3F29_94EB_3774_CF24
 
--- r - r * z * (1 / 3! - z * (1 / 5! - z * (1 / 7! - z / 9!)))
-unfoldable pub sineFrom : ℕ → ℕ → ℕ
-sineFrom r z = r * 4 - cutOf r * timesOf z (lessOf (over 3) z (lessOf (over 5) z (lessOf (over 7) z (over 9)))) / 2 ^ 14
+abbrev pub c1 : Float
+c1 = ofBits binary64 0x3FDF_FFFF_FD0C_621C
 
--- 1 - z * (1 / 2! - z * (1 / 4! - z * (1 / 6! - z * (1 / 8! - z / 10!))))
-unfoldable pub cosineFrom : ℕ → ℕ
-cosineFrom z = lessOf (over 0) z (lessOf (over 2) z (lessOf (over 4) z (lessOf (over 6) z (lessOf (over 8) z (over 10))))) * 2 ^ 17
+abbrev pub c2 : Float
+c2 = ofBits binary64 0x3FA5_5553_E106_8F19
 
-abbrev pub sineUnits : ℕ → ℕ
-sineUnits r = sineFrom r (squareOf r)
+abbrev pub c3 : Float
+c3 = ofBits binary64 0x3F56_C087_E89A_359D
 
-abbrev pub cosineUnits : ℕ → ℕ
-cosineUnits r = cosineFrom (squareOf r)
+abbrev pub c4 : Float
+c4 = ofBits binary64 0x3EF9_9343_027B_F8C3
 
--- The nearest f32.
-unfoldable pub asF32 : Bool → ℕ → Float
-asF32 minus n = round binary32 minus n (2 ^ 48)
+-- (r - x3 * s1) + (x3 * z) * (s2 - z * s3), where z is the square of r and x3 the cube.
+unfoldable pub sineOn : Float → Float → Float → Float
+sineOn r z x3 = add binary64 (sub binary64 r (mul binary64 x3 s1)) (mul binary64 (mul binary64 x3 z) (sub binary64 s2 (mul binary64 z s3)))
 
--- The rest's sine, with a minus where the rest is taken off, and its cosine.
-unfoldable pub sineAt : Bool → ℕ → Float
-sineAt short r = asF32 short (sineUnits r)
+unfoldable pub sineFrom : Float → Float → Float
+sineFrom r z = sineOn r z (mul binary64 r z)
 
-unfoldable pub cosineAt : ℕ → Float
-cosineAt r = asF32 false (cosineUnits r)
+-- ((1 - z * c1) + z2 * c2) - (z2 * z) * (c3 - z * c4), where z2 is the square of z.
+unfoldable pub cosineOn : Float → Float → Float
+cosineOn z z2 = sub binary64 (add binary64 (sub binary64 one (mul binary64 z c1)) (mul binary64 z2 c2)) (mul binary64 (mul binary64 z2 z) (sub binary64 c3 (mul binary64 z c4)))
 
-unfoldable pub sineOf : Float → Float
-sineOf t = let n = unitsOf t in placed neg (kOf n % 4) (sineAt (shortOf n) (restOf n)) (cosineAt (restOf n))
+unfoldable pub cosineFrom : Float → Float
+cosineFrom z = cosineOn z (mul binary64 z z)
+
+-- ---- one rounding to f32, by the bits
+
+-- The bits above the last 29, to the nearest, a half going up.
+abbrev pub keptOf : ℕ → ℕ
+keptOf b = (b + 0x1000_0000) / 0x2000_0000
+
+-- From 2 ^ -126, the first f32 that has all its digits, up to 2; 0 for every other number. An f32's exponent is 896 less.
+unfoldable pub narrowOf : Float → Float
+narrowOf d =
+    let b = toBits binary64 d in
+    cond (le zero d && (leb 0x3810_0000_0000_0000 b && ltb b 0x4000_0000_0000_0000)) (ofBits binary32 (keptOf b - 0x1_C000_0000)) (ofBits binary32 0)
+
+-- ---- the answers
+
+-- Below 2 ^ -12 in size the sine is the angle itself, and the cosine 1.
+unfoldable pub tinyOf : Float → Bool
+tinyOf t = lt t (ofBits binary32 0x3980_0000) && lt (neg (ofBits binary32 0x3980_0000)) t
+
+-- The sine of the rest d, which is odd, and its cosine, which is even.
+unfoldable pub sineAt : Float → Float
+sineAt d =
+    let r = sizedOf d in
+    let y = narrowOf (sineFrom r (mul binary64 r r)) in
+    cond (lt d zero) (neg y) y
+
+unfoldable pub cosineAt : Float → Float
+cosineAt d =
+    let r = sizedOf d in
+    narrowOf (cosineFrom (mul binary64 r r))
+
+-- Those of an angle's size, placed by the quarters mod 4.
+unfoldable pub sineOfSize : Float → Float
+sineOfSize x = placed neg (toBits binary64 (countedOf x) % 4) (sineAt (restOf x)) (cosineAt (restOf x))
 
 -- The cosine stands a quarter turn on.
+unfoldable pub cosineOfSize : Float → Float
+cosineOfSize x = placed neg ((toBits binary64 (countedOf x) % 4 + 1) % 4) (sineAt (restOf x)) (cosineAt (restOf x))
+
+unfoldable pub sineOf : Float → Float
+sineOf t =
+    let y = sineOfSize (sizeOf t) in
+    cond (tinyOf t) t (cond (lt t (ofBits binary32 0)) (neg y) y)
+
 unfoldable pub cosineOf : Float → Float
-cosineOf t = let n = unitsOf t in placed neg ((kOf n + 1) % 4) (sineAt (shortOf n) (restOf n)) (cosineAt (restOf n))
+cosineOf t = cond (tinyOf t) (ofBits binary32 0x3F80_0000) (cosineOfSize (sizeOf t))
 
 unfoldable pub sineCosineOf : Float → SineCosine
 sineCosineOf t = record { sine = sineOf t; cosine = cosineOf t }
-
--- The same of an angle that is reduced.
-unfoldable pub sineCosineAt : Reduced → SineCosine
-sineCosineAt a = record {
-  sine = placed neg (a .k % 4) (sineAt (a .short) (a .rest)) (cosineAt (a .rest));
-  cosine = placed neg ((a .k + 1) % 4) (sineAt (a .short) (a .rest)) (cosineAt (a .rest));
-}

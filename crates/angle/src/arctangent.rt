@@ -1,88 +1,96 @@
-// The arctangent by a table of 513 nodes and one step of Newton's, in 65,536ths of a degree.
+// The arctangent, in f32: the ratio, one of four known angles, an odd polynomial, the quadrant.
 ghost use mathlib.Core.Path.{_≡_};
-ghost use Prim.Native.Nat.{_≤_};
-ghost use Rattle.angle.specs.Nodes.{nodes};
-ghost use lib.Dec.{T};
-ghost use Rattle.angle.specs.Arctangent.{eighth, turn, halvesOf, isHalves, Halves, degreesOf, arctangentOf};
+ghost use Rattle.angle.specs.Arctangent.{evenOf, oddOf, lessOf, ofRatio, directionOf, arctangentOf};
 
-// The angle whose tangent is small / big.
-fn eighth_of(t: &[usize; 513], small: usize, big: usize) -> usize
-    requires { ⌜ (now t ≡ nodes) × (small ≤ big) × (big ≤ 32766) ⌝ }
-    ensures { λ r. ⌜ (r ≡ eighth small big) × (r ≤ 2949120) ⌝ }
+// The first, third, .. of eleven coefficients.
+fn even(z: f32, w: f32) -> f32
+    ensures { λ r. ⌜ r ≡ evenOf z w ⌝ }
 {
-    if big == 0 {
-        return 0;
-    }
-    let s = small * 512;
-    let i = s / big;
-    let q = big * 512 + i * small;
-    t[i] + s % big * 3754936 / q
+    let p8 = 0.049768779427 + w * 0.016285819933;
+    let p6 = 0.066610731184 + w * p8;
+    let p4 = 0.090908870101 + w * p6;
+    let p2 = 0.14285714924 + w * p4;
+    z * (0.33333334327 + w * p2)
 }
 
-// The answer's size, for u halves up and v to the right, or to the left.
-fn whole_turn(t: &[usize; 513], left: bool, u: usize, v: usize) -> usize
-    requires { ⌜ (now t ≡ nodes) × (u ≤ 32766) × (v ≤ 32766) ⌝ }
-    ensures { λ r. ⌜ (r ≡ turn left u v) × (r ≤ 11796480) ⌝ }
+// The others, which are taken off.
+fn odd(w: f32) -> f32
+    ensures { λ r. ⌜ r ≡ oddOf w ⌝ }
 {
-    if u <= v {
-        let n = eighth_of(t, u, v);
-        if left { 11796480 - n } else { n }
-    } else {
-        let n = eighth_of(t, v, u);
-        if left { 5898240 + n } else { 5898240 - n }
-    }
+    let p7 = 0.058335702866 + w * 0.036531571299;
+    let p5 = 0.076918758452 + w * p7;
+    let p3 = 0.11111110449 + w * p5;
+    w * (0.20000000298 + w * p3)
 }
 
-// How many halves x is in size, 32,766 at most; none for a NaN.
-fn halves_of(x: f32) -> usize
-    ensures { λ r. ⌜ (r ≡ halvesOf x) × (r ≤ 32766) ⌝ }
+// What the angle whose tangent is x is less than x.
+fn less(x: f32) -> f32
+    ensures { λ r. ⌜ r ≡ lessOf x ⌝ }
 {
-    let y = number::abs(x);
-    if y < 16383.0 {
-        return std::num::truncating_f32_to_u64(y * 2.0) as usize;
-    }
-    if y != y {
-        return 0;
-    }
-    32766
+    let z = x * x;
+    let w = z * z;
+    x * (even(z, w) - odd(w))
 }
 
-// The same of a multiple of a half, by the machine's own cast.
-fn halves_in(x: f32) -> usize
-    requires { ⌜ T (isHalves x) ⌝ }
-    ensures { λ r. ⌜ (r ≡ halvesOf x) × (r ≤ 32766) ⌝ }
+// The angle, in radians, of a ratio that is not negative.
+fn of_ratio(q: f32) -> f32
+    ensures { λ r. ⌜ r ≡ ofRatio q ⌝ }
 {
-    (number::abs(x) * 2.0) as usize
+    if q < 0.4375 {
+        return q - less(q);
+    }
+    if q < 0.6875 {
+        let x = (2.0 * q - 1.0) / (2.0 + q);
+        return 0.46364760399 - ((less(x) - 0.0000000050121582440) - x);
+    }
+    if q < 1.1875 {
+        let x = (q - 1.0) / (q + 1.0);
+        return 0.78539812565 - ((less(x) - 0.000000037748947079) - x);
+    }
+    if q < 2.4375 {
+        let x = (q - 1.5) / (1.0 + 1.5 * q);
+        return 0.98279368877 - ((less(x) - 0.000000034473217170) - x);
+    }
+    let x = -(1.0 / q);
+    1.5707962513 - ((less(x) - 0.000000075497894159) - x)
 }
 
-// The answer, from the two counts, right's side and up's sign.
-fn answer(t: &[usize; 513], minus: bool, left: bool, u: usize, v: usize) -> f32
-    requires { ⌜ (now t ≡ nodes) × (u ≤ 32766) × (v ≤ 32766) ⌝ }
-    ensures { λ r. ⌜ r ≡ degreesOf minus (turn left u v) ⌝ }
+// Radians, of the point that is `up` up and `right` to the right.
+fn direction(up: f32, right: f32) -> f32
+    ensures { λ r. ⌜ r ≡ directionOf up right ⌝ }
 {
-    let a = (whole_turn(t, left, u, v) as f32) * 0.0000152587890625;
-    if minus {
+    if up == 0.0 {
+        if number::is_sign_negative(right) {
+            if number::is_sign_negative(up) {
+                return -3.14159274101257324;
+            }
+            return 3.14159274101257324;
+        }
+        return up;
+    }
+    if right == 0.0 {
+        if up < 0.0 {
+            return -1.57079637050628662;
+        }
+        return 1.57079637050628662;
+    }
+    let a = of_ratio(number::abs(up / right));
+    if right < 0.0 {
+        let b = a + 0.0000000874227765;
+        if up < 0.0 {
+            return b - 3.14159274101257324;
+        }
+        return 3.14159274101257324 - b;
+    }
+    if up < 0.0 {
         return -a;
     }
     a
 }
 
-// The angle, in degrees, of the point that is `up` up and `right` to the right. The table is lent.
-pub fn arctangent(t: &[usize; 513], up: f32, right: f32) -> f32
-    requires { ⌜ now t ≡ nodes ⌝ }
+// The angle, in degrees, of the point that is `up` up and `right` to the right.
+pub fn arctangent(up: f32, right: f32) -> f32
     ensures { λ r. ⌜ r ≡ arctangentOf up right ⌝ }
 {
-    let u = halves_of(up);
-    let v = halves_of(right);
-    answer(t, number::is_sign_negative(up), right < 0.0, u, v)
-}
-
-// The same answer, sooner, where both are multiples of a half up to 16,383 in size, as a pie's are.
-pub fn arctangent_of_halves(t: &[usize; 513], up: f32, right: f32) -> f32
-    requires { ⌜ (now t ≡ nodes) × Halves up right ⌝ }
-    ensures { λ r. ⌜ r ≡ arctangentOf up right ⌝ }
-{
-    let u = halves_in(up);
-    let v = halves_in(right);
-    answer(t, number::is_sign_negative(up), right < 0.0, u, v)
+    direction(up, right) * 57.295779513082320876
 }

@@ -1,4 +1,3 @@
 // Angles: the sine and the cosine of radians, and the degrees of a direction.
 pub mod arctangent;
-pub mod nodes;
 pub mod sine;

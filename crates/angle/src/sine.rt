@@ -1,126 +1,96 @@
-// Sine and cosine by whole numbers: the rest in units of 2^-46, its series in units of 2^-31, the answer in units of 2^-48.
+// Sine and cosine: the angle's size brought near 0 by quarters, and two polynomials of the rest, in f64.
 ghost use mathlib.Core.Path.{_≡_};
-ghost use Prim.Native.Nat.{_%_, _≤_};
+ghost use Prim.Native.Nat.{_%_};
 ghost use mathlib.Core.Bool.{cond};
 ghost use lib.Dec.{eqb};
 ghost use lib.Ieee.{neg};
 ghost use Rattle.angle.specs.Meaning.{placed};
-ghost use Rattle.angle.specs.Sine.{one31, halfH, unitsOf, kOf, shortOf, restOf, squareOf, timesOf, lessOf, sineFrom, cosineFrom, asF32, reducedOf, Bounded, sineCosineAt, sineCosineOf};
+ghost use Rattle.angle.specs.Sine.{sizeOf, countedOf, offOf, sizedOf, sineFrom, cosineFrom, narrowOf, tinyOf, sineCosineOf};
 
-// z * w, where 2^31 stands for 1.
-fn times(z: u64, w: u64) -> u64
-    requires { ⌜ (z ≤ one31) × (w ≤ one31) ⌝ }
-    ensures { λ r. ⌜ (r ≡ timesOf z w) × (r ≤ w) ⌝ }
+// The rest's sine, from the rest and its square.
+fn sine_from(r: f64, z: f64) -> f64
+    ensures { λ y. ⌜ y ≡ sineFrom r z ⌝ }
 {
-    z * w / 0x8000_0000
-}
-
-// a - z * w
-fn less(a: u64, z: u64, w: u64) -> u64
-    requires { ⌜ (a ≤ one31) × (z ≤ one31) × (w ≤ a) ⌝ }
-    ensures { λ r. ⌜ (r ≡ lessOf a z w) × (r ≤ a) ⌝ }
-{
-    a - times(z, w)
-}
-
-// The rest's square.
-fn square(rest: u64) -> u64
-    requires { ⌜ rest ≤ halfH ⌝ }
-    ensures { λ r. ⌜ (r ≡ squareOf rest) × (r ≤ one31) ⌝ }
-{
-    let p = rest / 0x8000;
-    p * p / 0x8000_0000
-}
-
-// The rest's sine, from the rest and its square: the rest less what the other terms take off.
-fn sine_units(rest: u64, z: u64) -> u64
-    requires { ⌜ (rest ≤ halfH) × (z ≤ one31) ⌝ }
-    ensures { λ r. ⌜ (r ≡ sineFrom rest z) × (r ≤ 0x1_0000_0000_0000) ⌝ }
-{
-    let v = times(
-        z,
-        less(357913941, z, less(17895697, z, less(426088, z, 5917))),
-    );
-    rest * 4 - rest / 0x8000 * v / 0x4000
+    let x3 = r * z;
+    (r - x3 * 0.16666654943701084) + (x3 * z) * (0.008332178146138854 - z * 0.00019517298981385725)
 }
 
 // The rest's cosine, from its square.
-fn cosine_units(z: u64) -> u64
-    requires { ⌜ z ≤ one31 ⌝ }
-    ensures { λ r. ⌜ (r ≡ cosineFrom z) × (r ≤ 0x1_0000_0000_0000) ⌝ }
+fn cosine_from(z: f64) -> f64
+    ensures { λ y. ⌜ y ≡ cosineFrom z ⌝ }
 {
-    let w = less(
-        0x8000_0000,
-        z,
-        less(
-            0x4000_0000,
-            z,
-            less(89478485, z, less(2982616, z, less(53261, z, 591))),
-        ),
-    );
-    w * 0x2_0000
+    let z2 = z * z;
+    ((1.0 - z * 0.49999999725108224) + z2 * 0.041666623324344516)
+        - (z2 * z) * (0.001388676379437604 - z * 0.000024390450703564542)
 }
 
-// t and 32, in units of 2^-46, where the sum's last digit stands; 32 beyond 26 and for a NaN.
-fn units_of(t: f32) -> u64
-    ensures { λ r. ⌜ (r ≡ unitsOf t) × (r ≤ 0x10_0000_0000_0000) ⌝ }
+// d, from 2^-126 up to 2, rounded to an f32, whose exponent is 896 less. The tests look at the upper half of the bits alone.
+fn narrow(d: f64) -> f32
+    ensures { λ r. ⌜ r ≡ narrowOf d ⌝ }
+{
+    if d >= 0.0 {
+        let b = f64::to_bits(d);
+        let h = (b / 0x1_0000_0000) as u32;
+        if h >= 0x3810_0000 {
+            if h < 0x4000_0000 {
+                let q = (b + 0x1000_0000) / 0x2000_0000;
+                return f32::from_bits((q - 0x1_c000_0000) as u32);
+            }
+        }
+    }
+    0.0
+}
+
+// The size of t; 0 beyond 26 and for a NaN.
+fn size_of(t: f32) -> f32
+    ensures { λ r. ⌜ r ≡ sizeOf t ⌝ }
 {
     if t >= -26.0 {
         if t <= 26.0 {
-            return f64::to_bits(t as f64 + 96.0) - 0x4050_0000_0000_0000;
+            if t < 0.0 {
+                return -t;
+            }
+            return t;
         }
     }
-    0x8_0000_0000_0000
+    0.0
 }
 
-// An angle as k times H and a rest, which is taken off where `short`.
-pub struct Reduced {
-    pub k: u64,
-    pub short: bool,
-    pub rest: u64,
-}
-
-fn reduce(n: u64) -> Reduced
-    requires { ⌜ n ≤ 0x10_0000_0000_0000 ⌝ }
-    ensures { λ r. ⌜ (r .k ≡ kOf n) × (r .short ≡ shortOf n) × (r .rest ≡ restOf n) × (r .rest ≤ halfH) × (r .k ≤ 48) ⌝ }
+// The quarters nearest to x, with 1.5 * 2^52: there a sum's last digit is 1.
+fn counted(x: f64) -> f64
+    ensures { λ r. ⌜ r ≡ countedOf x ⌝ }
 {
-    let a = n + 0xce2_80fd_d66a;
-    let k = a / 0x6487_ed51_10b4;
-    let q = a % 0x6487_ed51_10b4;
-    if q < 0x3243_f6a8_885a {
-        Reduced {
-            k,
-            short: true,
-            rest: 0x3243_f6a8_885a - q,
-        }
-    } else {
-        Reduced {
-            k,
-            short: false,
-            rest: q - 0x3243_f6a8_885a,
-        }
+    x * 0.6366197723675814 + 6755399441055744.0
+}
+
+fn sized(d: f64) -> f64
+    ensures { λ r. ⌜ r ≡ sizedOf d ⌝ }
+{
+    if d < 0.0 {
+        return -d;
     }
+    d
 }
 
-// t, which is in radians, reduced.
-pub fn reduce_angle(t: f32) -> Reduced
-    ensures { λ r. ⌜ (r ≡ reducedOf t) × Bounded r ⌝ }
+// What is left of x by j right angles.
+fn off(x: f64, j: f64) -> f64
+    ensures { λ r. ⌜ r ≡ offOf x j ⌝ }
 {
-    reduce(units_of(t))
+    (x - j * 1.5707963267948912) - j * 0.000000000000005329070518200751
 }
 
-// The f32 nearest to n / 2^48, with a sign. Both summands are exact, so only the sum rounds.
-fn as_f32(minus: bool, n: u64) -> f32
-    requires { ⌜ n ≤ 0x1_0000_0000_0000 ⌝ }
-    ensures { λ r. ⌜ r ≡ asF32 minus n ⌝ }
+// y, or its opposite.
+fn turned(minus: bool, y: f32) -> f32
+    ensures { λ r. ⌜ r ≡ cond minus (neg y) y ⌝ }
 {
-    let high = ((n / 0x100_0000) as f32) * 0.000000059604644775390625;
-    let low = ((n % 0x100_0000) as f32) * 0.000000000000003552713678800501;
-    if minus { -(high + low) } else { high + low }
+    if minus {
+        return -y;
+    }
+    y
 }
 
 // s at an even quarter, and c at an odd one.
-fn even_or_odd(k: u64, s: f32, c: f32) -> f32
+fn even_or_odd(k: u32, s: f32, c: f32) -> f32
     ensures { λ r. ⌜ r ≡ cond (eqb (k % 2) 0) s c ⌝ }
 {
     if k % 2 == 0 {
@@ -130,7 +100,7 @@ fn even_or_odd(k: u64, s: f32, c: f32) -> f32
 }
 
 // s and c are the rest's sine and cosine, placed by k mod 4.
-fn placed_at(k: u64, s: f32, c: f32) -> f32
+fn placed_at(k: u32, s: f32, c: f32) -> f32
     ensures { λ r. ⌜ r ≡ placed neg (k % 4) s c ⌝ }
 {
     let v = even_or_odd(k, s, c);
@@ -140,27 +110,40 @@ fn placed_at(k: u64, s: f32, c: f32) -> f32
     -v
 }
 
+// Whether t is below 2^-12 in size.
+fn tiny(t: f32) -> bool
+    ensures { λ r. ⌜ r ≡ tinyOf t ⌝ }
+{
+    if t < 0.000244140625 {
+        return t > -0.000244140625;
+    }
+    false
+}
+
 pub struct SineCosine {
     pub sine: f32,
     pub cosine: f32,
-}
-
-// The sine and the cosine of an angle that is reduced.
-pub fn sine_cosine_at(a: Reduced) -> SineCosine
-    requires { ⌜ Bounded a ⌝ }
-    ensures { λ r. ⌜ r ≡ sineCosineAt a ⌝ }
-{
-    let z = square(a.rest);
-    let s = as_f32(a.short, sine_units(a.rest, z));
-    let c = as_f32(false, cosine_units(z));
-    let y = placed_at(a.k, s, c);
-    let cosine = placed_at(a.k + 1, s, c);
-    SineCosine { sine: y, cosine }
 }
 
 // The sine and the cosine of t, which is in radians.
 pub fn sine_cosine(t: f32) -> SineCosine
     ensures { λ r. ⌜ r ≡ sineCosineOf t ⌝ }
 {
-    sine_cosine_at(reduce_angle(t))
+    let x = size_of(t) as f64;
+    let y = counted(x);
+    let k = (f64::to_bits(y) % 4) as u32;
+    let d = off(x, y - 6755399441055744.0);
+    let r = sized(d);
+    let z = r * r;
+    let s = turned(d < 0.0, narrow(sine_from(r, z)));
+    let c = narrow(cosine_from(z));
+    let v = turned(t < 0.0, placed_at(k, s, c));
+    let cosine = placed_at(k + 1, s, c);
+    if tiny(t) {
+        return SineCosine {
+            sine: t,
+            cosine: 1.0,
+        };
+    }
+    SineCosine { sine: v, cosine }
 }

@@ -14,9 +14,9 @@ use lib.Ieee.{Float, nan, inf, fin, binary32, up, down, round, neg, add, mul, su
 use lib.Ieee.Fits.{down-pos, and-l}
 use lib.Ieee.Exact.{HasValue, round-exact}
 use Rattle.number.specs.Size.{one}
-use Rattle.angle.specs.Arctangent.{isHalves, halvesOf, Halves, Domain}
-use Rattle.curves.specs.Ovals.{offset, ovalOf}
-use Rattle.curves.specs.Pies.{pieOf, pieRowOf, acrossOf, Inside}
+use Rattle.angle.specs.Arctangent.{isHalves, halvesOf, Domain}
+use Rattle.curves.specs.Ovals.{offset}
+use Rattle.curves.specs.Pies.{Inside}
 use Rattle.curves.proofs.Offsets.{pie-right, pie-up}
 
 -- ---- a point of the box is the i-th of its row, or of its column
@@ -51,11 +51,6 @@ module _ (x : ℤ) (w p : ℕ) (h : Inside x w p) where
 
   above : T (isHalves (neg (offset (pos p) x w)))
   above = let k = placed x w p (h .from) (h .to) in pie-up (pos p) x w (k .index) (h .place) (h .corner) (h .side) (k .below) (k .at) .0
-
--- ---- the arctangent's requirement
-pub apt : (x y : ℤ) (w h : ℕ) (start sweep : ℤ) (i j : ℕ) → Inside x w i → Inside y h j → let p = pieOf x y w h start sweep in Halves (neg (pieRowOf p j .dy)) (acrossOf p i)
-unfolding acrossOf pieRowOf pieOf ovalOf
-apt x y w h start sweep i j p q = record { up = unfold offset in above y h j q; right = unfold offset in right x w i p }
 
 -- ---- not both zero: the centre's distance from itself is below 1
 abbrev Zero : Float → Type 0

@@ -4,14 +4,14 @@ use mathlib.Core.Bool.{Bool, true, false}
 use mathlib.Core.List.{[], _∷_}
 use Prim.Native.Nat.{ℕ}
 use lib.IntN.{pos}
-use lib.Ieee.{binary32, isNan, ofBits, ofInt, add, sub, mul, div, lt, le}
+use lib.Ieee.{Float, binary32, isNan, ofBits, ofInt, add, sub, mul, div, lt, le}
 use Rattle.number.specs.Degrees.{radiansOf}
 use Rattle.number.specs.Size.{plusZero, one, absOf, maxOf}
 use Rattle.number.specs.Whole.{roundSize, roundAs, ceilSize}
 use Rattle.curves.specs.Ovals.{halfAxis, centre, offset, ovalOf}
 use Rattle.curves.specs.Strokes.{strokeRadius, stepsOf, spotOf}
 use Rattle.curves.specs.Pies.{sweepOf, inSweep, inPie}
-use Rattle.curves.specs.Corners.{radiusOf, insetOf, nearestCentre, inRound}
+use Rattle.curves.specs.Corners.{radiusOf, insetOf, cornersOf, nearestCentre, inRound}
 
 abbrev full : ℕ → ℕ → ℕ → ℕ → Bool
 full w h i j = inPie (pos 0) (pos 0) w h (pos 0) (pos 360) i j
@@ -55,6 +55,14 @@ top = refl
 inset-1 : insetOf (radiusOf 1 9) ≡ 1
 unfolding insetOf radiusOf roundAs roundSize maxOf isNan ofInt div lt
 inset-1 = refl
+
+-- With radii of 2 the centres of a box of 9 by 9 are 2 in from its corners.
+abbrev whole : ℕ → Float
+whole n = ofInt binary32 (pos n)
+
+centres : cornersOf (pos 0) (pos 0) (pos 8) (pos 8) (whole 2) (whole 2) ≡ record { left = whole 2; right = whole 6; top = whole 2; bottom = whole 6; rx = whole 2; ry = whole 2 }
+unfolding cornersOf ofInt add sub
+centres = refl
 
 -- A round fill of a box of 2 by 2 is empty, and one of 3 by 3 with arcs of 3 is its middle.
 abbrev rounded : ℕ → ℕ → ℕ → ℕ → Bool

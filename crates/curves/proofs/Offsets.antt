@@ -26,7 +26,7 @@ pub record Half (x : Float) (z : ℤ) (K : ℕ) : Type 0 where
   pub few : count ≤ K
 
 -- a fraction that is k halves
-halved : (s : Bool) (a c k : ℕ) → 0 < c → a * 2 ≡ k * c → k < 2 ^ 24 → HasValue (round binary32 s a c) s k 2
+pub halved : (s : Bool) (a c k : ℕ) → 0 < c → a * 2 ≡ k * c → k < 2 ^ 24 → HasValue (round binary32 s a c) s k 2
 halved s a c k C e h =
     over (round binary32 s a c) (round-exact binary32 s a c k 148 C h (lt-of-lt-of-le (shl-lt 24 148 h) (lit≤ tt)) (scale a c k (2 ^ 148) (2 ^ 149) refl e))
   where
@@ -106,7 +106,9 @@ module _ (K L : ℕ) (room : K + L < 2 ^ 24) where
   unfolding sum
   sum-half true true A B C a b p e f h k = total true A B C a b p e f h k
   sum-half false false A B C a b p e f h k = total false A B C a b p e f h k
-  sum-half true false A B C a b p e f h k = subst (λ (z : ℤ). Half (cond (ltb A B) (round binary32 false (B - A) C) (round binary32 (true && ltb B A) (A - B) C)) (signed true a +ℤ z) (K + L)) (opposite true b) (difference true A B C a b p e f h k)
+  sum-half true false A B C a b p e f h k =
+      subst (λ (z : ℤ). Half (cond (ltb A B) (round binary32 false (B - A) C) (round binary32 (true && ltb B A) (A - B) C)) (signed true a +ℤ z) (K + L)) (opposite true b)
+      (difference true A B C a b p e f h k)
   sum-half false true A B C a b p e f h k = difference false A B C a b p e f h k
 
   pub add-half : (x y : Float) (z w : ℤ) → Half x z K → Half y w L → Half (add binary32 x y) (z +ℤ w) (K + L)
@@ -117,7 +119,8 @@ module _ (K L : ℕ) (room : K + L < 2 ^ 24) where
   add-half (fin s m e) (inf t) z w p q = absurd (q .value)
   add-half (fin s m e) (fin t n o) z w p q =
       subst (λ (x : ℤ). Half (sum binary32 s (m * up e * down o) t (n * up o * down e) (down e * down o)) x (K + L))
-      (ap (λ (b : Bool). signed b (p .count) +ℤ signed t (q .count)) (p .value .0) ∙ ap (λ (b : Bool). signed (p .sign) (p .count) +ℤ signed b (q .count)) (q .value .0) ∙ ap (λ (x : ℤ). x +ℤ signed (q .sign) (q .count)) (p .is) ∙ ap (λ (x : ℤ). z +ℤ x) (q .is))
+      (ap (λ (b : Bool). signed b (p .count) +ℤ signed t (q .count)) (p .value .0) ∙ ap (λ (b : Bool). signed (p .sign) (p .count) +ℤ signed b (q .count)) (q .value .0) ∙ ap
+      (λ (x : ℤ). x +ℤ signed (q .sign) (q .count)) (p .is) ∙ ap (λ (x : ℤ). z +ℤ x) (q .is))
       (sum-half s t (m * up e * down o) (n * up o * down e) (down e * down o) (p .count) (q .count) (mul-pos (down-pos e) (down-pos o))
       (left (m * up e) (down e) (down o) (p .count) (p .value .1)) (right (n * up o) (down o) (down e) (q .count) (q .value .1)) (p .few) (q .few))
     where
@@ -139,18 +142,26 @@ neg-half (fin s m e) z K p = record {
   few = p .few;
 }
 
-sub-half : (K L : ℕ) → K + L < 2 ^ 24 → (x y : Float) (z w : ℤ) → Half x z K → Half y w L → Half (sub binary32 x y) (z -ℤ w) (K + L)
+pub sub-half : (K L : ℕ) → K + L < 2 ^ 24 → (x y : Float) (z w : ℤ) → Half x z K → Half y w L → Half (sub binary32 x y) (z -ℤ w) (K + L)
 unfolding sub
 sub-half K L room x y z w p q = add-half K L room x (neg y) z (negℤ w) p (neg-half y w L q)
 
-int-half : (z : ℤ) (K : ℕ) → 2 * natAbs z ≤ K → K < 2 ^ 24 → Half (ofInt binary32 z) (z +ℤ z) K
+pub int-half : (z : ℤ) (K : ℕ) → 2 * natAbs z ≤ K → K < 2 ^ 24 → Half (ofInt binary32 z) (z +ℤ z) K
 unfolding ofInt
 int-half (pos n) K h k = record { sign = false; count = n + n; value = halved false n 1 (n + n) (lit< tt) (omega arith) (omega arith); is = refl; few = omega arith }
-int-half (negsuc n) K h k = record { sign = true; count = suc n + suc n; value = halved true (suc n) 1 (suc n + suc n) (lit< tt) (omega arith) (omega arith); is = sym (plus true (suc n) (suc n)); few = omega arith }
+int-half (negsuc n) K h k =
+    record {
+      sign =
+          true;
+      count = suc n + suc n;
+      value = halved true (suc n) 1 (suc n + suc n) (lit< tt) (omega arith) (omega arith);
+      is = sym (plus true (suc n) (suc n));
+      few = omega arith;
+    }
 
 -- ---- the centre
 -- twice n halves, halved
-half-of : (x : Float) (n K : ℕ) → Half x (pos (n + n)) K → n < 2 ^ 24 → Half (div binary32 x (fin false 1 (pos 1))) (pos n) n
+pub half-of : (x : Float) (n K : ℕ) → Half x (pos (n + n)) K → n < 2 ^ 24 → Half (div binary32 x (fin false 1 (pos 1))) (pos n) n
 unfolding div
 half-of nan n K q k = absurd (q .value)
 half-of (inf s) n K q k = absurd (q .value)
@@ -173,7 +184,7 @@ half-of (fin s m e) n K q k = record {
     plain true zero e f = let z : 0 ≡ n = omega arith in subst (λ (k : ℕ). signed true k ≡ pos k) z refl
     plain true (suc c) e f = absurd (pos-ne-negsuc (n + n) c (sym f))
 
-axis-half : (w : ℕ) → 0 < w → w ≤ 32767 → Half (halfAxis w) (pos (w - 1)) (w - 1)
+pub axis-half : (w : ℕ) → 0 < w → w ≤ 32767 → Half (halfAxis w) (pos (w - 1)) (w - 1)
 unfolding halfAxis
 axis-half w p h =
     half-of (sub binary32 (ofInt binary32 (pos w)) (fin false 1 (pos 0))) (w - 1) 65536
@@ -184,32 +195,34 @@ axis-half w p h =
     one : Half (fin false 1 (pos 0)) (pos 2) 2
     one = record { sign = false; count = 2; value = (refl, refl); is = refl; few = lit≤ tt }
 
-wider : (x : Float) (z : ℤ) (K L : ℕ) → K ≤ L → Half x z K → Half x z L
+pub wider : (x : Float) (z : ℤ) (K L : ℕ) → K ≤ L → Half x z K → Half x z L
 wider x z K L h p = record { sign = p .sign; count = p .count; value = p .value; is = p .is; few = le-trans (p .few) h }
 
 centre-half : (x : ℤ) (w : ℕ) → natAbs x ≤ 32768 → 0 < w → w ≤ 32767 → Half (centre x w) (x +ℤ x +ℤ pos (w - 1)) 98302
 unfolding centre
 centre-half x w b p h =
-    add-half 65536 32766 (lit< tt) (ofInt binary32 x) (halfAxis w) (x +ℤ x) (pos (w - 1)) (int-half x 65536 (omega arith) (lit< tt)) (wider (halfAxis w) (pos (w - 1)) (w - 1) 32766 (omega arith) (axis-half w p h))
+    add-half 65536 32766 (lit< tt) (ofInt binary32 x) (halfAxis w) (x +ℤ x) (pos (w - 1)) (int-half x 65536 (omega arith) (lit< tt))
+    (wider (halfAxis w) (pos (w - 1)) (w - 1) 32766 (omega arith) (axis-half w p h))
 
 -- ---- the offset of the i-th point of a row or a column
-regroup : (x b : ℤ) → (x +ℤ b) +ℤ (x +ℤ b) ≡ (b +ℤ b) +ℤ (x +ℤ x)
+pub regroup : (x b : ℤ) → (x +ℤ b) +ℤ (x +ℤ b) ≡ (b +ℤ b) +ℤ (x +ℤ x)
 regroup x b =
     ap (λ (z : ℤ). z +ℤ (x +ℤ b)) (+ℤ-comm x b)
     ∙ +ℤ-assoc b x (x +ℤ b)
     ∙ ap (λ (z : ℤ). b +ℤ z) (sym (+ℤ-assoc x x b) ∙ +ℤ-comm (x +ℤ x) b)
     ∙ sym (+ℤ-assoc b b (x +ℤ x))
 
-cancel : (a b c : ℤ) → (b +ℤ a) -ℤ (a +ℤ c) ≡ b -ℤ c
+pub cancel : (a b c : ℤ) → (b +ℤ a) -ℤ (a +ℤ c) ≡ b -ℤ c
 cancel a b c =
     ap (λ (z : ℤ). (b +ℤ a) +ℤ z) (negℤ-+ℤ a c)
     ∙ +ℤ-assoc b a (negℤ a +ℤ negℤ c)
     ∙ ap (λ (z : ℤ). b +ℤ z) (sym (+ℤ-assoc a (negℤ a) (negℤ c)) ∙ ap (λ (z : ℤ). z +ℤ negℤ c) (+ℤ-invr a) ∙ +ℤ-idl (negℤ c))
 
-offset-half : (p x : ℤ) (w i : ℕ) → natAbs p ≤ 32767 → natAbs x ≤ 32768 → w ≤ 32767 → i < w → p ≡ x +ℤ pos i → Half (offset p x w) (pos (i + i) -ℤ pos (w - 1)) 163836
+pub offset-half : (p x : ℤ) (w i : ℕ) → natAbs p ≤ 32767 → natAbs x ≤ 32768 → w ≤ 32767 → i < w → p ≡ x +ℤ pos i → Half (offset p x w) (pos (i + i) -ℤ pos (w - 1)) 163836
 unfolding offset
 offset-half p x w i a b h l e =
-    subst (λ (z : ℤ). Half (offset p x w) z 163836) (ap (λ (z : ℤ). z +ℤ z -ℤ (x +ℤ x +ℤ pos (w - 1))) e ∙ ap (λ (z : ℤ). z -ℤ (x +ℤ x +ℤ pos (w - 1))) (regroup x (pos i)) ∙ cancel (x +ℤ x) (pos (i + i)) (pos (w - 1)))
+    subst (λ (z : ℤ). Half (offset p x w) z 163836) (ap (λ (z : ℤ). z +ℤ z -ℤ (x +ℤ x +ℤ pos (w - 1))) e ∙ ap (λ (z : ℤ). z -ℤ (x +ℤ x +ℤ pos (w - 1))) (regroup x (pos i)) ∙ cancel (x +ℤ x)
+    (pos (i + i)) (pos (w - 1)))
     (sub-half 65534 98302 (lit< tt) (ofInt binary32 p) (centre x w) (p +ℤ p) (x +ℤ x +ℤ pos (w - 1)) (int-half p 65534 (omega arith) (lit< tt)) (centre-half x w b (omega arith) h))
 
 -- z halves are that many, and a multiple of a half
@@ -221,8 +234,11 @@ counted (fin s m e) z K q h = go (m * up e * 2) (down e) (natAbs z) (down-pos e)
   where
     go : (n d k : ℕ) → 0 < d → n ≡ k * d → k ≤ 32766 → T (eqb (n % d) 0 && leb (n / d) 32766) × (min (n / d) 32766 ≡ k)
     go n d k p f g =
-        let r : n / d ≡ k = ap (λ (z : ℕ). z / d) f ∙ mul-div-cancel k p in
-        (and-i (eqb (n % d) 0) (leb (n / d) 32766) (eq→eqb (ap (λ (z : ℕ). z % d) f ∙ mul-mod-left k d)) (le→leb (n / d) 32766 (subst (λ (z : ℕ). z ≤ 32766) (sym r) g)), ap (λ (z : ℕ). min z 32766) r ∙ kept k g)
+        let r : n / d ≡ k = ap (λ (z : ℕ). z / d) f ∙ mul-div-cancel k p in (
+          and-i (eqb (n % d) 0) (leb (n / d) 32766) (eq→eqb (ap (λ (z : ℕ). z % d) f ∙ mul-mod-left k d)) (le→leb (n / d) 32766 (subst (λ (z : ℕ). z ≤ 32766) (sym r) g)),
+          ap
+              (λ (z : ℕ). min z 32766) r ∙ kept k g,
+        )
       where
         kept : (k : ℕ) → k ≤ 32766 → min k 32766 ≡ k
         kept k h = omega arith

@@ -1,15 +1,22 @@
--- The tests by parts, of a shape, of a row and of a point, are the tests of 01. Assumes nothing.
+-- A pie's test is that of its ellipse and that of its sweep. Assumes nothing.
 use mathlib.Core.Path.{_≡_, refl}
-use Prim.Native.Nat.{ℕ, _-_}
-use lib.IntN.{ℤ, pos, _+ℤ_}
+use mathlib.Core.Bool.{true}
+use Prim.Native.Nat.{ℕ}
+use lib.IntN.{ℤ, pos}
+use lib.Ieee.{binary32, ofInt}
+use Rattle.curves.specs.declared.pies.Pie.{Pie}
 use Rattle.curves.specs.Ovals.{offset, ovalOf}
-use Rattle.curves.specs.Pies.{pieOf, pieRowOf, acrossOf, inPieAt, inPie}
-use Rattle.curves.specs.Corners.{radiusOf, cornersOf, inRound, partOf, cornerRowOf, inCornersAt}
+use Rattle.curves.specs.Pies.{sweepOf, inSweep, pieOf, allRound, covers}
 
-pub in-pie-is : (x y : ℤ) (w h : ℕ) (start sweep : ℤ) (i j : ℕ) → let p = pieOf x y w h start sweep in inPieAt p (pieRowOf p j) i ≡ inPie x y w h start sweep i j
-unfolding inPieAt pieRowOf acrossOf pieOf ovalOf inPie offset
-in-pie-is x y w h start sweep i j = refl
+pub covers-is : (x y : ℤ) (w h : ℕ) (start sweep : ℤ) (i j : ℕ)
+    → covers (pieOf x y w h start sweep) i j ≡ inSweep (sweepOf (ofInt binary32 start) (ofInt binary32 sweep)) (offset (pos i) x w) (offset (pos j) y h)
+unfolding covers pieOf ovalOf offset
+covers-is x y w h start sweep i j = refl
 
-pub in-round-is : (x y : ℤ) (w h aw ah i j : ℕ) → let c = cornersOf x y (x +ℤ pos (w - 1)) (y +ℤ pos (h - 1)) (radiusOf aw w) (radiusOf ah h) in inCornersAt c (cornerRowOf c j) i ≡ inRound x y w h aw ah i j
-unfolding inCornersAt cornerRowOf partOf cornersOf inRound
-in-round-is x y w h aw ah i j = refl
+-- a sweep of all has every pixel
+pub covers-all : (p : Pie) (i j : ℕ) → p .sweep .all ≡ true → covers p i j ≡ true
+unfolding covers inSweep
+covers-all p i j e = rw e
+
+pub all-covers : (i j : ℕ) → covers allRound i j ≡ true
+all-covers i j = covers-all allRound i j (unfold allRound in refl)

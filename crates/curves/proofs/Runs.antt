@@ -4,7 +4,7 @@ use mathlib.Core.Bool.{Bool, true, false, not, Bool·beq}
 use Prim.Native.Nat.{ℕ, _+_, _≤_, _<_}
 use native.Mathlib.Omega.{arith}
 use native.Mathlib.Decide.{decLt}
-use Rattle.curves.specs.Regions.{Next}
+use Rattle.curves.specs.Pies.{Next}
 
 -- the invariant: no number from x up to i answers so
 pub record Passed (t : ℕ → Bool) (taken : Bool) (x x1 i : ℕ) : Type 0 where

@@ -35,8 +35,6 @@ cornerOf c right bottom = record { cx = cond right (c .right) (c .left); cy = co
 unfoldable pub nearestCentre : Float → Float → Float → Float
 nearestCentre p low high = cond (lt p low) low (cond (lt high p) high p)
 
--- ---- the whole test
-
 -- "The fill takes points whose offset from the nearest corner centre .. meets the pie's ellipse test with rx, ry", for the
 -- point (i, j) of a box with arc sizes aw and ah.
 unfoldable pub inRound : ℤ → ℤ → ℕ → ℕ → ℕ → ℕ → ℕ → ℕ → Bool
@@ -50,15 +48,3 @@ inRound x y w h aw ah i j =
     let nx = div binary32 (sub binary32 px cx) rx in
     let ny = div binary32 (sub binary32 py cy) ry in
     le (add binary32 (mul binary32 nx nx) (mul binary32 ny ny)) one
-
--- ---- the same by parts: of the four corners, of a row, of a point
-
--- The offset from the nearest centre, over the radius, squared.
-unfoldable pub partOf : Float → Float → Float → Float → Float
-partOf p low high r = let n = div binary32 (sub binary32 p (nearestCentre p low high)) r in mul binary32 n n
-
-unfoldable pub cornerRowOf : Corners → ℕ → Float
-cornerRowOf c j = partOf (ofInt binary32 (pos j)) (c .top) (c .bottom) (c .ry)
-
-unfoldable pub inCornersAt : Corners → Float → ℕ → Bool
-inCornersAt c row i = le (add binary32 (partOf (ofInt binary32 (pos i)) (c .left) (c .right) (c .rx)) row) one

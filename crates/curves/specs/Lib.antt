@@ -2,4 +2,4 @@ pub mod Ovals
 pub mod Strokes
 pub mod Pies
 pub mod Corners
-pub mod Regions
+pub mod Bulges

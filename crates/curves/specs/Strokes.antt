@@ -1,5 +1,6 @@
 -- Strokes: how many steps one has, and the point at each. Definitions only.
-use Prim.Native.Nat.{ℕ, _+_, _*_, min, max}
+use mathlib.Core.List.{List, [], _∷_}
+use Prim.Native.Nat.{ℕ, zero, suc, _+_, _*_, min, max}
 use lib.Ieee.{Float, binary32, add, sub, mul}
 use Rattle.number.specs.Size.{one, absOf, maxOf}
 use Rattle.number.specs.Whole.{roundAs, ceilSize}
@@ -27,3 +28,8 @@ spotOf o t = record {
 -- "for i from 0, t = start + (sweep*i)/steps in f32 radians"
 unfoldable pub strokePoint : Oval → Float → Float → ℕ → ℕ → Spot
 strokePoint o start sweep i steps = spotOf o (sineCosineOf (strokeAngle start sweep i steps))
+
+-- n of the angles, from the i-th on.
+unfoldable pub anglesFrom : Float → Float → ℕ → ℕ → ℕ → List Float
+anglesFrom start sweep steps i zero = []
+anglesFrom start sweep steps i (suc n) = strokeAngle start sweep i steps ∷ anglesFrom start sweep steps (suc i) n

@@ -1,8 +1,8 @@
-// Round corners: radii, the four corners' ovals, and the test of a fill.
+// Round corners: radii, and the four corners' ovals.
 ghost use mathlib.Core.Path.{_≡_};
 ghost use mathlib.Core.Bool.{cond};
 ghost use Prim.Native.Nat.{min};
-ghost use Rattle.curves.specs.Corners.{radiusOf, insetOf, cornersOf, cornerOf, nearestCentre, cornerRowOf, inCornersAt};
+ghost use Rattle.curves.specs.Corners.{radiusOf, insetOf, cornersOf, cornerOf};
 use crate::ovals::Oval;
 
 // The centres' columns and rows, and the radii.
@@ -15,7 +15,7 @@ pub struct Corners {
     pub ry: f32,
 }
 
-fn smaller(a: u32, b: u32) -> u32
+pub(crate) fn smaller(a: u32, b: u32) -> u32
     ensures { λ r. ⌜ r ≡ min a b ⌝ }
 {
     if a < b {
@@ -76,35 +76,4 @@ pub fn corner(c: Corners, right: bool, bottom: bool) -> Oval
         a: c.rx,
         b: c.ry,
     }
-}
-
-// p held between the two centres, the low one tested first.
-fn nearest_centre(p: f32, low: f32, high: f32) -> f32
-    ensures { λ r. ⌜ r ≡ nearestCentre p low high ⌝ }
-{
-    if p < low {
-        return low;
-    }
-    if p > high {
-        return high;
-    }
-    p
-}
-
-// The square of a row's part in the ellipse.
-pub fn corner_row(c: Corners, py: u16) -> f32
-    ensures { λ r. ⌜ r ≡ cornerRowOf c py ⌝ }
-{
-    let p = py as f32;
-    let ny = (p - nearest_centre(p, c.top, c.bottom)) / c.ry;
-    ny * ny
-}
-
-// Whether the fill takes a pixel of the row.
-pub fn in_corners(c: Corners, row: f32, px: u16) -> bool
-    ensures { λ r. ⌜ r ≡ inCornersAt c row px ⌝ }
-{
-    let p = px as f32;
-    let nx = (p - nearest_centre(p, c.left, c.right)) / c.rx;
-    nx * nx + row <= 1.0
 }

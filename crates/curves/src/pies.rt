@@ -1,9 +1,12 @@
-// Pies: what each pixel of one shares is worked out once, and what a row's pixels share once a row.
+// Pies: the degrees that one covers, and where in a row the pixels in them begin and end. The ellipse is in `bulges`.
 ghost use mathlib.Core.Path.{_≡_};
-ghost use lib.Ieee.{neg};
-ghost use Rattle.angle.specs.Nodes.{nodes};
-ghost use Rattle.angle.specs.Arctangent.{Halves};
-ghost use Rattle.curves.specs.Pies.{sweepOf, inSweep, pieOf, pieRowOf, acrossOf, inPieAt};
+ghost use mathlib.Core.Bool.{false};
+ghost use Prim.Native.Nat.{_+_, _*_, _%_, _≤_, _<_};
+ghost use lib.Ieee.{binary32, neg, add, mul, lt};
+ghost use Rattle.number.specs.Size.{one};
+ghost use Rattle.angle.specs.Arctangent.{Domain};
+ghost use Rattle.curves.specs.Pies.{sweepOf, inArc, inSweep, pieOf, allRound, covers, Next};
+ghost use Rattle.curves.specs.Pies.{isWhole, degreesOf, flankOf, eighthOf, Swept};
 use crate::ovals::Oval;
 use crate::ovals::oval_in;
 
@@ -15,18 +18,18 @@ pub struct Sweep {
     pub length: f32,
 }
 
-// da and db are what an offset is divided by.
-pub struct Pie {
-    pub oval: Oval,
-    pub da: f32,
-    pub db: f32,
-    pub sweep: Sweep,
+// A part sweep in whole degrees, where it is one: how far past its start the direction of 0 degrees lies, and its length.
+pub struct Degrees {
+    pub whole: bool,
+    pub from: u64,
+    pub length: u64,
 }
 
-// A row's offset from the centre, and the square of its part in the ellipse.
-pub struct PieRow {
-    pub dy: f32,
-    pub square: f32,
+// The oval of its box, and its sweep.
+pub struct Pie {
+    pub oval: Oval,
+    pub sweep: Sweep,
+    pub degrees: Degrees,
 }
 
 fn sweep_of(start: f32, sweep: f32) -> Sweep
@@ -50,37 +53,151 @@ fn sweep_of(start: f32, sweep: f32) -> Sweep
     }
 }
 
+// Whether a start is 1440 - n degrees, and a length this one, of a part of a turn.
+fn is_whole(s: Sweep, n: u64, length: u64) -> bool
+    ensures { λ r. ⌜ r ≡ isWhole s n length ⌝ }
+{
+    if n > 2880 {
+        return false;
+    }
+    if length < 1 {
+        return false;
+    }
+    if length > 359 {
+        return false;
+    }
+    if 1440.0 - n as f32 == s.start {
+        return length as f32 == s.length;
+    }
+    false
+}
+
+fn degrees_of(s: Sweep) -> Degrees
+    ensures { λ r. ⌜ r ≡ degreesOf s ⌝ }
+{
+    let n = number::ceil_size(1440.0 - s.start);
+    let length = number::ceil_size(s.length);
+    let whole = is_whole(s, n, length);
+    Degrees {
+        whole,
+        from: n % 360,
+        length,
+    }
+}
+
 // The pie in a box, with start and sweep in degrees.
 pub fn pie_in(x: i32, y: i32, w: u32, h: u32, start: i32, sweep: i32) -> Pie
     ensures { λ r. ⌜ r ≡ pieOf x y w h start sweep ⌝ }
 {
     let oval = oval_in(x, y, w, h);
-    let da = number::max(oval.a, 0.5);
-    let db = number::max(oval.b, 0.5);
     let from = std::num::nearest_i32_to_f32(start);
     let sweep = sweep_of(from, std::num::nearest_i32_to_f32(sweep));
+    let degrees = degrees_of(sweep);
     Pie {
         oval,
-        da,
-        db,
         sweep,
+        degrees,
     }
 }
 
-pub fn pie_row(p: Pie, py: u16) -> PieRow
-    ensures { λ r. ⌜ r ≡ pieRowOf p py ⌝ }
+// A pie of every direction: what has no sweep of its own, as a round fill, goes by it.
+pub fn all_round() -> Pie
+    ensures { λ r. ⌜ r ≡ allRound ⌝ }
 {
-    let dy = py as f32 - p.oval.cy;
-    let ny = dy / p.db;
-    PieRow {
-        dy,
-        square: ny * ny,
+    let oval = Oval {
+        cx: 0.0,
+        cy: 0.0,
+        a: 0.0,
+        b: 0.0,
+    };
+    let sweep = Sweep {
+        all: true,
+        none: false,
+        start: 0.0,
+        length: 0.0,
+    };
+    let degrees = Degrees {
+        whole: false,
+        from: 0,
+        length: 0,
+    };
+    Pie {
+        oval,
+        sweep,
+        degrees,
     }
 }
 
-// point_in_sweep, of the offset from the centre. The arctangent's table is lent.
-fn in_sweep(t: &[usize; 513], s: Sweep, dx: f32, dy: f32) -> bool
-    requires { ⌜ (now t ≡ nodes) × Halves (neg dy) dx ⌝ }
+// Which eighth of a half turn, from the right on, has what is so far up or down and to the right.
+fn flank(up: f32, right: f32) -> u64
+    ensures { λ r. ⌜ r ≡ flankOf up right ⌝ }
+{
+    let far = number::abs(up);
+    if right < 0.0 {
+        if -right < far {
+            return 2;
+        }
+        return 3;
+    }
+    if right < far {
+        return 1;
+    }
+    0
+}
+
+// Which eighth of a turn, from 0 degrees on.
+fn eighth(up: f32, right: f32) -> u64
+    ensures { λ r. ⌜ r ≡ eighthOf up right ⌝ }
+{
+    let e = flank(up, right);
+    if number::is_sign_negative(up) {
+        return 7 - e;
+    }
+    e
+}
+
+// Whether the angle of an offset is one of the sweep's.
+fn in_arc(s: Sweep, dx: f32, dy: f32) -> bool
+    ensures { λ r. ⌜ r ≡ inArc s dx dy ⌝ }
+{
+    let angle = angle::arctangent::arctangent(-dy, dx);
+    number::rem_euclid_360(angle - s.start) <= s.length
+}
+
+// How far past a sweep's start an eighth of a turn begins.
+fn begins(from: u64, eighth: u64) -> u64
+    requires { ⌜ (from < 360) × (eighth ≤ 7) ⌝ }
+    ensures { λ r. ⌜ r ≡ (from + 45 * eighth) % 360 ⌝ }
+{
+    let at = from + 45 * eighth;
+    if at < 360 {
+        return at;
+    }
+    at - 360
+}
+
+// The same. An eighth of a turn that lies all in the sweep, or all past it, is not asked for the angle.
+fn in_part(s: Sweep, d: Degrees, dx: f32, dy: f32) -> bool
+    requires { ⌜ (d ≡ degreesOf s) × (Domain (neg dy) dx) ⌝ }
+    ensures { λ r. ⌜ r ≡ inArc s dx dy ⌝ }
+{
+    let at = begins(d.from, eighth(-dy, dx));
+    if d.whole {
+        if at < 315 {
+            if at + 45 <= d.length {
+                return true;
+            }
+            if d.length < at {
+                return false;
+            }
+        }
+    }
+    in_arc(s, dx, dy)
+}
+
+// point_in_sweep, of the offset from the centre.
+fn in_sweep(s: Sweep, d: Degrees, dx: f32, dy: f32) -> bool
+    requires { ⌜ (s .all ≡ false → d ≡ degreesOf s) × (s .all ≡ false → lt (add binary32 (mul binary32 dx dx) (mul binary32 dy dy)) one ≡ false → Domain (neg dy) dx) ⌝ }
     ensures { λ r. ⌜ r ≡ inSweep s dx dy ⌝ }
 {
     if s.all {
@@ -92,20 +209,25 @@ fn in_sweep(t: &[usize; 513], s: Sweep, dx: f32, dy: f32) -> bool
     if dx * dx + dy * dy < 1.0 {
         return true;
     }
-    let angle = angle::arctangent::arctangent_of_halves(t, -dy, dx);
-    number::rem_euclid_360(angle - s.start) <= s.length
+    in_part(s, d, dx, dy)
 }
 
-// Whether the pie takes a pixel of its box.
-pub fn in_pie(t: &[usize; 513], p: Pie, row: PieRow, px: u16) -> bool
-    requires { ⌜ (now t ≡ nodes) × Halves (neg (row .dy)) (acrossOf p px) ⌝ }
-    ensures { λ r. ⌜ r ≡ inPieAt p row px ⌝ }
+// The first pixel of row y, from x on and before x1, that the sweep has (or that it has not); x1 if there is none.
+pub fn next(p: Pie, y: u16, x: usize, x1: usize, taken: bool) -> usize
+    requires { ⌜ (x ≤ x1) × ((x1 ≤ 32767) × (Swept p x x1 y)) ⌝ }
+    ensures { λ r. ⌜ Next (λ i. covers p i y) taken x x1 r ⌝ }
 {
-    let dx = px as f32 - p.oval.cx;
-    let nx = dx / p.da;
-    if nx * nx + row.square > 1.0 {
-        return false;
-    }
+    let o = p.oval;
     let s = p.sweep;
-    in_sweep(t, s, dx, row.dy)
+    let d = p.degrees;
+    let dy = y as f32 - o.cy;
+    let mut i = x;
+    while i < x1 {
+        let dx = i as u16 as f32 - o.cx;
+        if in_sweep(s, d, dx, dy) == taken {
+            return i;
+        }
+        i = i + 1;
+    }
+    i
 }

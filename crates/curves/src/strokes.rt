@@ -1,13 +1,14 @@
 // Strokes: how many steps one has, and the point at each.
 ghost use mathlib.Core.Path.{_≡_};
+ghost use mathlib.Core.List.{map};
 ghost use Prim.Native.Nat.{_+_, _*_, _≤_, max};
 ghost use lib.IntN.{pos};
-ghost use lib.Ieee.{binary32, ofInt};
-ghost use Rattle.angle.specs.Sine.{reducedOf, Bounded, sineCosineAt};
-ghost use Rattle.angle.specs.Stroke.{strokeAngle};
-ghost use Rattle.curves.specs.Strokes.{stepsOf, spotOf};
+ghost use lib.ListN.{length};
+ghost use lib.Ieee.{binary32, ofInt, add, mul, div};
+ghost use Rattle.angle.specs.Sine.{sineOf, cosineOf};
+ghost use Rattle.curves.specs.Strokes.{stepsOf, spotOf, anglesFrom};
 use crate::ovals::Oval;
-use angle::sine::Reduced;
+use angle::sine::SineCosine;
 
 // The most steps on a canvas of these sides.
 fn most_steps(width: u32, height: u32) -> u64
@@ -46,12 +47,50 @@ fn nearest_to(n: u32) -> f32
     std::num::nearest_u32_to_f32(n)
 }
 
-// The angle at step i, reduced; start and sweep are in radians.
-pub fn stroke_angle(start: f32, sweep: f32, i: u32, steps: u32) -> Reduced
-    ensures { λ r. ⌜ (r ≡ reducedOf (strokeAngle start sweep i steps)) × Bounded r ⌝ }
+// The angle at step i of so many.
+fn angle_at(start: f32, sweep: f32, i: u32, by: f32) -> f32
+    requires { ⌜ i ≤ 0x100_0000 ⌝ }
+    ensures { λ r. ⌜ r ≡ add binary32 start (div binary32 (mul binary32 sweep (ofInt binary32 (pos i))) by) ⌝ }
 {
-    let along = sweep * nearest_to(i) / nearest_to(steps);
-    angle::sine::reduce_angle(start + along)
+    start + sweep * (i as i32 as f32) / by
+}
+
+// The angles at 16 steps, from step i on.
+fn angles(start: f32, sweep: f32, i: u32, steps: u32, ts: &mut [f32])
+    requires { ⌜ (i ≤ 0x10_0000) × (length (now ts) ≡ 16) ⌝ }
+    ensures { λ _. ⌜ now (ts .exit) ≡ anglesFrom start sweep steps i 16 ⌝ }
+{
+    let by = nearest_to(steps);
+    let mut j = 0u32;
+    while j < 16 {
+        ts[j as usize] = angle_at(start, sweep, i + j, by);
+        j = j + 1;
+    }
+}
+
+// The sines and the cosines of 16 angles.
+fn sines_of(ts: &[f32], ss: &mut [f32], cs: &mut [f32])
+    requires { ⌜ (length (now ts) ≡ 16) × ((length (now ss) ≡ 16) × (length (now cs) ≡ 16)) ⌝ }
+    ensures { λ _. ⌜ (now (ss .exit) ≡ map sineOf (now (ts .entry))) × (now (cs .exit) ≡ map cosineOf (now (ts .entry))) ⌝ }
+{
+    let mut j = 0;
+    while j < 16 {
+        let t = angle::sine::sine_cosine(ts[j]);
+        ss[j] = t.sine;
+        cs[j] = t.cosine;
+        j = j + 1;
+    }
+}
+
+// The sines and the cosines at 16 steps, from step i on; start and sweep are in radians. A loop for each part of the work
+// lets the machine do several at once.
+pub fn sines_from(start: f32, sweep: f32, i: u32, steps: u32, ss: &mut [f32], cs: &mut [f32])
+    requires { ⌜ (i ≤ 0x10_0000) × ((length (now ss) ≡ 16) × (length (now cs) ≡ 16)) ⌝ }
+    ensures { λ _. ⌜ (now (ss .exit) ≡ map sineOf (anglesFrom start sweep steps i 16)) × (now (cs .exit) ≡ map cosineOf (anglesFrom start sweep steps i 16)) ⌝ }
+{
+    let mut ts = [0.0f32; 16];
+    angles(start, sweep, i, steps, &mut ts);
+    sines_of(&ts, ss, cs);
 }
 
 pub struct Spot {
@@ -59,12 +98,10 @@ pub struct Spot {
     pub y: i32,
 }
 
-// The point at an angle that is reduced.
-pub fn spot_at(o: Oval, a: Reduced) -> Spot
-    requires { ⌜ Bounded a ⌝ }
-    ensures { λ r. ⌜ r ≡ spotOf o (sineCosineAt a) ⌝ }
+// The point at an angle of this sine and cosine.
+pub fn spot_at(o: Oval, t: SineCosine) -> Spot
+    ensures { λ r. ⌜ r ≡ spotOf o t ⌝ }
 {
-    let t = angle::sine::sine_cosine_at(a);
     Spot {
         x: number::round_i32(o.cx + o.a * t.cosine),
         y: number::round_i32(o.cy - o.b * t.sine),

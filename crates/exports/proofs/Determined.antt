@@ -11,7 +11,6 @@ use Rattle.exports.proofs.numbers.number_ceil_size.Reads as number-ceil
 use Rattle.exports.proofs.numbers.number_round_i32.Reads as number-round-i32
 use Rattle.exports.proofs.numbers.number_round_i32_f64.Reads as number-round-i32-f64
 use Rattle.exports.proofs.angles.angle_arctangent.Reads as angle-arctangent
-use Rattle.exports.proofs.angles.angle_arctangent_of_halves.Reads as angle-arctangent-of-halves
 use Rattle.exports.proofs.angles.angle_sine_cosine.Reads as angle-sine-cosine
 use Rattle.exports.proofs.blends.blending_332.Reads as blending-332
 use Rattle.exports.proofs.blends.blending_565.Reads as blending-565
@@ -51,10 +50,8 @@ number-round-i32-f64-determined κs a s s' r r' p q = p ∙ sym q
 angle-arctangent-determined : (κs : _) (a : _) (s s' : _) (r r' : _) → angle-arctangent.Post κs a r s → angle-arctangent.Post κs a r' s' → r ≡ r'
 angle-arctangent-determined κs a s s' r r' p q = p ∙ sym q
 
-angle-arctangent-of-halves-determined : (κs : _) (a : _) (s s' : _) (r r' : _) → angle-arctangent-of-halves.Post κs a r s → angle-arctangent-of-halves.Post κs a r' s' → r ≡ r'
-angle-arctangent-of-halves-determined κs a s s' r r' p q = p ∙ sym q
-
-angle-sine-cosine-determined : (κs : _) (a : _) (s s' : _) (r r' : _) → angle-sine-cosine.Post κs a r s → angle-sine-cosine.Post κs a r' s' → (now (s .1 .0) ≡ now (s' .1 .0)) × (now (s .1 .1 .0) ≡ now (s' .1 .1 .0))
+angle-sine-cosine-determined : (κs : _) (a : _) (s s' : _) (r r' : _) → angle-sine-cosine.Post κs a r s → angle-sine-cosine.Post κs a r' s'
+    → (now (s .1 .0) ≡ now (s' .1 .0)) × (now (s .1 .1 .0) ≡ now (s' .1 .1 .0))
 angle-sine-cosine-determined κs a s s' r r' p q = (p .0 ∙ sym (q .0), p .1 ∙ sym (q .1))
 
 blending-332-determined : (κs : _) (a : _) (s s' : _) (r r' : _) → blending-332.Post κs a r s → blending-332.Post κs a r' s' → r ≡ r'

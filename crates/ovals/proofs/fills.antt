@@ -1,3 +1,2 @@
 -- The laws of pies and round fills.
-pub mod Sifts
 pub mod Sieves

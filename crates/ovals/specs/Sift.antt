@@ -1,20 +1,23 @@
--- What the contracts of the inner functions of pies, round fills and round outlines speak of; no public contract cites this file.
+-- What the contracts of the inner functions of strokes, pies, round fills and round outlines speak of; no public contract cites this file.
 use mathlib.Core.Path.{_≡_}
-use mathlib.Core.Bool.{Bool, true, cond, not}
-use mathlib.Core.List.{List, [], _++_, flatMap}
-use Prim.Native.Nat.{ℕ, _≤_, _<_}
-use lib.IntN.{ℤ, pos}
-use lib.Ieee.{Float}
-use lib.ListN.{length}
+use mathlib.Core.Bool.{Bool, false, cond, not, _&&_}
+use mathlib.Core.List.{List, [], _∷_, _++_, flatMap}
+use Prim.Native.Nat.{ℕ, zero, suc, _+_, _-_, _≤_, _<_}
+use lib.IntN.{pos}
+use lib.Ieee.{Float, nan}
+use lib.ListN.{length, getD}
 use Rattle.angle.specs.Stroke.{radians}
 use Rattle.curves.specs.declared.corners.Corners.{Corners}
 use Rattle.curves.specs.Corners.{cornerOf}
-use Rattle.curves.specs.declared.regions.Region.{Region}
-use Rattle.curves.specs.Regions.{Asked}
+use Rattle.curves.specs.declared.bulges.Side.{Side}
+use Rattle.curves.specs.Bulges.{partOn, hasAt}
+use Rattle.curves.specs.declared.pies.Pie.{Pie}
+use Rattle.curves.specs.Pies.{degreesOf, covers, Asked}
 use Rattle.pixels.specs.declared.Canvas.{Canvas}
-use Rattle.canvas.specs.Clip.{within}
 use Rattle.canvas.specs.Plot.{Point}
-use Rattle.ovals.specs.Strokes.{stroke}
+use Rattle.curves.specs.declared.ovals.Oval.{Oval}
+use Rattle.curves.specs.Strokes.{spotOf}
+use Rattle.ovals.specs.Strokes.{pointOf, stroke}
 use Rattle.pixels.specs.Hits.{Hit, paint}
 use Rattle.pixels.specs.Rows.{mark, flat}
 use Rattle.canvas.specs.Walk.{plus, Work, work}
@@ -33,16 +36,28 @@ sifted t f xs ys = flatMap (sifts t f xs) ys
 abbrev pub land : Canvas → List Hit → Work → Work
 land v hs w = work (paint v hs (w .bytes)) (plus (w .tally) (length hs))
 
--- The region's test may be made at each of these pixels, with this table.
-pub record AskedAt (s : Region) (t : List ℕ) (x0 x1 y0 y1 : ℕ) : Type 0 where
-  pub rows : (j : ℕ) → y0 ≤ j → j < y1 → Asked s t j x0 x1
-
--- At each pixel of a box that a canvas may have.
-pub record AskedIn (s : Region) (t : List ℕ) (x y : ℤ) (w h : ℕ) : Type 0 where
-  pub rows : (j x0 x1 : ℕ) → j ≤ 32767 → x1 ≤ 32767 → within y h (pos j) ≡ true → ((i : ℕ) → x0 ≤ i → i < x1 → within x w (pos i) ≡ true) → Asked s t j x0 x1
-
 -- The two upper or lower quarters at the corners of a round rectangle, from these angles in radians.
 abbrev pub half : Canvas → Corners → Bool → Float → Float → List Point
 half v c low first second =
     let quarter = radians (pos 90) in
     stroke v (cornerOf c (not low) low) first quarter ++ stroke v (cornerOf c low low) second quarter
+
+-- n of the points of sines and cosines, from the k-th on.
+unfoldable pub spotsAt : Oval → List Float → List Float → ℕ → ℕ → List Point
+spotsAt o ss cs k zero = []
+spotsAt o ss cs k (suc n) = pointOf (spotOf o (record { sine = getD ss k nan; cosine = getD cs k nan })) ∷ spotsAt o ss cs (suc k) n
+
+-- Whether a region with these sides, its corner lifted, and with the sweep of this pie takes a pixel.
+abbrev pub regionAt : Side → Side → Pie → ℕ → ℕ → ℕ → ℕ → Bool
+regionAt sx sy k p q i j = hasAt sx (partOn sy (j + 2147483648 - q)) (i + 2147483648 - p) && covers k i j
+
+-- The places from x0 up to x1 are among the n from a lifted one on.
+pub record Lies (p n x0 x1 : ℕ) : Type 0 where
+  pub begins : x0 < x1 → p ≤ x0 + 2147483648
+  pub ends : x0 < x1 → x1 + 2147483648 ≤ p + n
+
+-- Of a part sweep: its degrees are known, and it may be asked for the pixels of a box with a lifted corner.
+pub record Asks (k : Pie) (p w q h : ℕ) : Type 0 where
+  pub degrees : k .sweep .all ≡ false → k .degrees ≡ degreesOf (k .sweep)
+  pub asked : k .sweep .all ≡ false → (i j : ℕ) → i ≤ 32767 → j ≤ 32767
+      → p ≤ i + 2147483648 → i + 2147483648 < p + w → q ≤ j + 2147483648 → j + 2147483648 < q + h → Asked k i j

@@ -2,6 +2,7 @@
 mod faults;
 mod fills;
 mod rounds;
+mod runs;
 mod strokes;
 
 pub use fills::fill_arc;

@@ -1,16 +1,19 @@
 // Strokes: arcs, and the quarters of a round rectangle's corners.
 ghost use mathlib.Core.Path.{_≡_};
-ghost use Prim.Native.Nat.{suc, _≤_, _<_};
+ghost use Prim.Native.Nat.{suc, _≤_, _<_, min};
+ghost use lib.ListN.{length};
 ghost use Rattle.number.specs.Degrees.{radiansOf};
 ghost use Rattle.words.specs.Ink.{inked};
 ghost use Rattle.pixels.specs.Bytes.{size, Sized};
 ghost use Rattle.canvas.specs.Plot.{inks};
 ghost use Rattle.ovals.specs.Strokes.{pointOf, strokeFrom, stroke, arc};
+ghost use Rattle.ovals.specs.Sift.{spotsAt};
 ghost use Rattle.ovals.specs.Call.{drawArc};
 ghost use Rattle.canvas.specs.Call.{leaves, call};
 ghost use Rattle.canvas.specs.Walk.{plus, work, dabbed, dabs, Fits, Did, Fields};
 ghost use Rattle.ovals.specs.Sift.{half};
 use crate::faults::arc_fault;
+use angle::sine::SineCosine;
 use canvas::Clip;
 use canvas::Drawn;
 use canvas::Tally;
@@ -48,8 +51,46 @@ fn dab_spot(
     dab(canvas, b, xs, ys, n, p, q, ink, t)
 }
 
-// The plots of a stroke of so many steps, the first and the last included. The next angle is reduced before a point is
-// worked out, so that the machine does both at once.
+// The plots of m points, whose sines and cosines are given.
+fn dab_spots(
+    canvas: Canvas,
+    b: &mut [u8],
+    xs: Span,
+    ys: Span,
+    n: usize,
+    o: Oval,
+    ss: &[f32],
+    cs: &[f32],
+    m: usize,
+    ink: Ink,
+    t0: Tally,
+) -> Tally
+    requires { ⌜ (Sized canvas (now b)) × ((Fields canvas xs ys) × ((n ≡ size canvas) × ((m ≤ 16) × ((length (now ss) ≡ 16) × ((length (now cs) ≡ 16) × (Fits (plus t0 m))))))) ⌝ }
+    ensures { λ r. ⌜ work (now (b .exit)) r ≡ dabs canvas xs ys (inked ink) (spotsAt o (now (ss .entry)) (now (cs .entry)) 0 m) (work (now (b .entry)) t0) ⌝ }
+{
+    let mut t = t0;
+    let mut j = 0;
+    while j < m {
+        let sine = ss[j];
+        let cosine = cs[j];
+        let s = curves::strokes::spot_at(o, SineCosine { sine, cosine });
+        t = dab_spot(canvas, b, xs, ys, n, s, ink, t);
+        j = j + 1;
+    }
+    t
+}
+
+// So many, and 16 at most.
+fn up_to_16(n: u32) -> u32
+    ensures { λ r. ⌜ r ≡ min n 16 ⌝ }
+{
+    if n < 16 {
+        return n;
+    }
+    16
+}
+
+// The plots of a stroke of so many steps, the first and the last included, 16 at a time.
 fn stroke_steps(
     canvas: Canvas,
     b: &mut [u8],
@@ -66,15 +107,15 @@ fn stroke_steps(
     requires { ⌜ (Sized canvas (now b)) × ((Fields canvas xs ys) × ((n ≡ size canvas) × ((steps ≤ 1048544) × (t0 .landed < 9223372036854775808)))) ⌝ }
     ensures { λ r. ⌜ work (now (b .exit)) r ≡ dabs canvas xs ys (inked ink) (strokeFrom o start sweep steps 0 (suc steps)) (work (now (b .entry)) t0) ⌝ }
 {
+    let mut ss = [0.0f32; 16];
+    let mut cs = [0.0f32; 16];
     let mut t = t0;
     let mut i = 0u32;
-    let mut a = curves::strokes::stroke_angle(start, sweep, 0, steps);
     while i <= steps {
-        let next = curves::strokes::stroke_angle(start, sweep, i + 1, steps);
-        let s = curves::strokes::spot_at(o, a);
-        t = dab_spot(canvas, b, xs, ys, n, s, ink, t);
-        a = next;
-        i = i + 1;
+        curves::strokes::sines_from(start, sweep, i, steps, &mut ss, &mut cs);
+        let m = up_to_16(steps + 1 - i);
+        t = dab_spots(canvas, b, xs, ys, n, o, &ss, &cs, m as usize, ink, t);
+        i = i + m;
     }
     t
 }

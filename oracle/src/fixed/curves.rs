@@ -1,6 +1,7 @@
-//! Arcs, pies and round rectangles. Those of which a point may differ from the Rust's are taken out of the list.
+//! Arcs, pies and round rectangles.
 
 use super::{COLOR, EVERYWHERE, MAX, MIN, MOST, SIDES, areas, head, modes};
+use crate::edges::{Direction, directions};
 
 /// Angles about a quarter turn, a turn and two.
 const ANGLES: [i64; 15] = [0, 1, -1, 90, -90, 359, -359, 360, -360, 361, -361, 720, -720, 721, -721];
@@ -92,6 +93,60 @@ pub fn angled(op: &str, list: &mut Vec<String>) {
             list.push(format!("{head} {op} {at} {angles} {COLOR} 0 0 9 9"));
         }
     }
+}
+
+/// Arcs of which a point is nearly between two pixels: the last digit of a step of the Rust's decides it.
+const ARCS: [((i64, i64), &str); 20] = [
+    ((1, 1), "0 -1 1 3 210 0"),
+    ((1, 1), "0 0 1 3 315 250"),
+    ((1, 1), "0 0 1 2 705 -690"),
+    ((1, 2), "0 1 1 3 -351 -292"),
+    ((1, 2), "0 0 2 3 60 -690"),
+    ((1, 3), "0 2 2 5 263 -173"),
+    ((1, 4), "0 3 1 3 630 480"),
+    ((1, 5), "0 2 2 2 33 285"),
+    ((1, 6), "-2954 -208 3939 3184 333 87"),
+    ((2, 1), "0 0 4 1 555 90"),
+    ((2, 2), "0 0 4 3 134 570"),
+    ((2, 5), "0 2 2 3 720 150"),
+    ((5, 1), "1 0 7 1 -97 217"),
+    ((6, 1), "1 0 7 2 -300 109"),
+    ((9, 1), "3 0 7 2 -255 -45"),
+    ((6, 3), "1 0 7 1 -300 -315"),
+    ((9, 4), "1 2 9 3 270 720"),
+    ((5, 11), "-5 2 7 2 -232 -282"),
+    ((19, 14), "12 12 7 2 330 330"),
+    ((26, 26), "1 1 24 24 59 -240"),
+];
+
+/// Round outlines of which one is.
+const OUTLINES: [((i64, i64), &str); 4] =
+    [((1, 1), "0 0 2 3 3 3"), ((2, 1), "1 0 236 247 29 1"), ((19, 1), "9 0 18 1 18 3"), ((27, 1), "7 0 22 2 28 16")];
+
+/// These, with XOR off and on.
+pub fn between(op: &str, list: &mut Vec<String>) {
+    let shapes = if op == "arc" { &ARCS[..] } else { &OUTLINES };
+    for ((w, h), shape) in shapes {
+        list.extend([0, 1].map(|xor| format!("0 {w} {h} {xor} z {op} {shape} 255 255 255 255 0 0 {w} {h}")));
+    }
+}
+
+/// Pies of which a pixel is nearly on an edge: on a phone's screen, and of one pixel those on the axes and the diagonals and
+/// the five in each eighth of a turn that are nearest to a whole degree.
+pub fn beside(list: &mut Vec<String>) {
+    for shape in ["181 188 0 262", "181 188 278 90", "224 225 0 43"] {
+        list.push(format!("0 240 320 0 z pie 0 0 {shape} 255 255 255 255 0 0 240 320"));
+    }
+    let straight = |d: &Direction| d.right == 0 || d.up == 0 || d.right.abs() == d.up.abs();
+    let mut near: Vec<Direction> = directions(320).filter(|d| lowest(d.right, d.up) && !straight(d)).collect();
+    near.sort_by(|d, e| d.beside().total_cmp(&e.beside()));
+    let straight = directions(3).filter(|d| straight(d) && d.right.abs().max(d.up.abs()) == 3);
+    list.extend(straight.chain(near.into_iter().take(40)).flat_map(Direction::pies));
+}
+
+/// Whether no number but 1 divides both.
+fn lowest(a: i64, b: i64) -> bool {
+    if b == 0 { a.abs() == 1 } else { lowest(b, a % b) }
 }
 
 /// Round rectangles, outlined and filled.

@@ -1,210 +1,337 @@
--- The rule's answer is what 01 asks for: the direction by the bound in each eighth of a turn, the range, the axes and the
--- diagonals by the rule's size there. Assumes nothing.
+-- The rule's answer is what 01 asks for: off the axes and the diagonals by the angle of the ratio, on them by the answer itself. Assumes nothing.
 use mathlib.Core.Path.{_≡_, refl, sym, ap, _∙_, subst}
-use mathlib.Core.Logic.{inl, inr}
-use mathlib.Core.Bool.{Bool, true, false, not, cond, _&&_, _||_, Bool·beq}
-use Prim.Native.Nat.{ℕ, _+_, _*_, _-_, _/_, _^_, _≤_, _<_}
-use native.Mathlib.Nat.{le-refl, lt-of-lt-of-le, mul-pos, mul-assoc, mul-div-cancel, eq-or-lt-of-le, le-of-mul-le-mul-right, mul-le-mul-right}
+use mathlib.Core.Logic.{⊎-elim}
+use mathlib.Core.Bool.{Bool, true, false, cond}
+use Prim.Native.Nat.{ℕ, _+_, _-_, _*_, _^_, _≤_, _<_}
+use native.Mathlib.Nat.{mul-le-mul-left, mul-le-mul-right, mul-lt-mul-of-pos-right, mul-pos}
 use native.Mathlib.Omega.{arith}
+use native.Mathlib.Decide.{decLt}
+use lib.Dec.{T, lit≤, lit<}
 use lib.IntN.{ℤ, pos}
-use lib.Dec.{T, leb, ltb, eqb, leb→le, nleb→lt, lt→ltb, lit<, lit≤}
-use lib.Pow.{shl-lt, pow-pos}
-use lib.Ieee.{Float, nan, inf, fin, binary32, up, down, round, ofBits, mul, neg, lt, eq, le}
-use lib.Ieee.Fits.{down-pos, eq→eqb}
-use lib.Ieee.Exact.{HasValue, round-exact}
-use lib.Ieee.Scale.{round-same}
-use borrow.Author.Tests.{le-leb, lt-leb}
-use Rattle.number.specs.Degrees.{degree, radiansOf}
-use Rattle.number.proofs.Range.{no}
-use Rattle.number.proofs.Signs.{sign-other}
-use Rattle.angle.specs.Meaning.{D, signed, parts, sine, cosine, Along}
-use Rattle.number.specs.Size.{signOf, plusZero}
-use Rattle.angle.specs.Arctangent.{turn, eighth, halvesOf, isHalves, degreesOf, arctangentOf, Domain, Arctangent}
-use Rattle.angle.proofs.arctangent.Angles.{product, product-is}
-use Rattle.angle.proofs.arctangent.Placed.{part, flat}
-use Rattle.angle.proofs.arctangent.Around.{all, eighth-0, eighth-45}
-use Rattle.angle.proofs.arctangent.Bounds.{top}
-use Rattle.angle.proofs.arctangent.Floats.{exact, of-false, halves-few, size-zero}
+use lib.Ieee.{Float, nan, inf, fin, up, down, ofBits, round, mul, lt}
+use Rattle.number.specs.Degrees.{radiansOf}
+use Rattle.number.specs.Size.{absOf, signOf, plusZero}
+use Rattle.angle.specs.Meaning.{D, H, whole, coef, signed, parts, sine, cosine, Along}
+use Rattle.angle.specs.Arctangent.{halvesOf, isHalves, arctangentOf, Domain, Arctangent}
+use Rattle.angle.proofs.Terms.{sinAt, cosAt, sum}
+use Rattle.angle.proofs.arctangent.Placed.{part, part-pos, Good, flat, meets-1, meets-2, meets-3, meets-4, meets-5}
+use Rattle.angle.proofs.arctangent.Halves.{halves-few, exact, D-is, parts-are, right-is}
+use Rattle.angle.proofs.arctangent.Ops.{Val, lt-is, lt-not}
+use Rattle.angle.proofs.arctangent.Exactly.{axis-right, axis-left, axis-up, diagonal-right, diagonal-left}
+use Rattle.angle.proofs.arctangent.Sides.{Low, High, by, low, high}
+use Rattle.angle.proofs.arctangent.Degrees.{InTurn, in-turn, InEighth, eighthOf}
+use Rattle.angle.proofs.arctangent.First.{first-low}
+use Rattle.angle.proofs.arctangent.Steep.{steep-high}
+use Rattle.angle.proofs.arctangent.Between.{between}
 
--- ---- the rule's size
-turn-most : (l : Bool) (u v : ℕ) → 0 < u + v → turn l u v ≤ 11796480
-unfolding turn
-turn-most l u v h = go (leb u v) (leb→le u v) (nleb→lt u v) l
-  where
-    go : (b : Bool) → (T b → u ≤ v) → (T (not b) → v < u) → (l : Bool) → cond b (cond l (11796480 - eighth u v) (eighth u v)) (cond l (5898240 + eighth v u) (5898240 - eighth v u)) ≤ 11796480
-    go true f g true = omega arith
-    go true f g false = let k : u ≤ v = f tt in omega (arith, top u v k (omega arith))
-    go false f g true = let k : v < u = g tt in omega (arith, top v u (omega arith) (omega arith))
-    go false f g false = omega arith
+-- ---- the products of 0, 45, 90, 135 and 180 degrees with the constant, in D-ths
+unfoldable t45 : ℕ
+t45 = 13176795 * 2 ^ 125
 
--- ---- the answer's value, and its product with the constant
-degrees : (n : ℕ) → n ≤ 11796480 → HasValue (round binary32 false n 65536) false n 65536
-degrees n h =
-    round-exact binary32 false n 65536 n 133 (lit< tt) (omega arith) (lt-of-lt-of-le (shl-lt 24 133 (omega arith)) (lit≤ tt))
-    (sym (mul-assoc n (2 ^ 133) 65536))
+unfoldable t90 : ℕ
+t90 = 13176795 * 2 ^ 126
 
-negated : (x : Float) (a c : ℕ) → HasValue x false a c → HasValue (neg x) true a c
-unfolding neg
-negated nan a c v = absurd v
-negated (inf s) a c v = absurd v
-negated (fin true m e) a c v = absurd (of-false (v .0) tt)
-negated (fin false m e) a c v = (refl, v .1)
+unfoldable t135 : ℕ
+t135 = 9882596 * 2 ^ 127
 
-either : (s : Bool) (x : Float) (a c : ℕ) → HasValue x false a c → HasValue (cond s (neg x) x) s a c
-either true x a c v = negated x a c v
-either false x a c v = v
+unfoldable t180 : ℕ
+t180 = 13176795 * 2 ^ 127
 
--- the product with the constant
-times : (s : Bool) (x : Float) (n : ℕ) → HasValue x s n 65536 → mul binary32 x degree ≡ round binary32 s (n * 9370165) (2 ^ 45)
-unfolding mul ofBits
-times s nan n v = absurd v
-times s (inf t) n v = absurd v
-times s (fin t m e) n v =
-    ap (λ (b : Bool). round binary32 b (m * up e * 9370165) (down e * 2 ^ 29)) (same t ∙ v .0)
-    ∙ round-same binary32 s (m * up e * 9370165) (down e * 2 ^ 29) (n * 9370165) (2 ^ 45) (mul-pos (down-pos e) (pow-pos 29)) (pow-pos 45)
-    (cross (m * up e) (down e) n (v .1))
-  where
-    same : (t : Bool) → not (Bool·beq t false) ≡ t
-    same true = refl
-    same false = refl
+p0 : (s : Bool) → parts (radiansOf (fin s 0 (pos 0))) ≡ signed s 0
+unfolding radiansOf parts mul round ofBits D
+p0 true = refl
+p0 false = refl
 
-    cross : (a d n : ℕ) → a * 65536 ≡ n * d → a * 9370165 * 35184372088832 ≡ n * 9370165 * (d * 536870912)
-    cross a d n e = omega arith
+p45 : (s : Bool) → parts (radiansOf (fin s 45 (pos 0))) ≡ signed s t45
+unfolding radiansOf parts mul round ofBits D t45
+p45 true = refl
+p45 false = refl
 
--- ---- up and right, in D-ths
-D-is : D ≡ 2 * part
-unfolding D part
-D-is = refl
+p90 : (s : Bool) → parts (radiansOf (fin s 45 (pos 1))) ≡ signed s t90
+unfolding radiansOf parts mul round ofBits D t90
+p90 true = refl
+p90 false = refl
 
-parts-are : (x : Float) → T (isHalves x) → parts x ≡ signed (signOf x) (halvesOf x * part)
-unfolding parts isHalves signOf
-parts-are nan h = absurd h
-parts-are (inf s) h = absurd h
-parts-are (fin s m e) h = ap (signed s) (ap (λ (z : ℕ). z / down e) (go (m * up e) (halvesOf (fin s m e)) (down e) D (exact s m e h) D-is) ∙ mul-div-cancel (halvesOf (fin s m e) * part) (down-pos e))
+p135 : (s : Bool) → parts (radiansOf (fin s 135 (pos 0))) ≡ signed s t135
+unfolding radiansOf parts mul round ofBits D t135
+p135 true = refl
+p135 false = refl
+
+p180 : (s : Bool) → parts (radiansOf (fin s 45 (pos 2))) ≡ signed s t180
+unfolding radiansOf parts mul round ofBits D t180
+p180 true = refl
+p180 false = refl
+
+-- ---- the axes and the diagonals: a few closed numbers
+axis-good : (v y : ℕ) → 0 < v → 262144 * sinAt y ≤ whole → 0 < cosAt y → Good 0 v y
+axis-good v y p h c = omega (arith, mul-le-mul-left v h, mul-pos p c)
+
+diagonal-good : (u y : ℕ) → 0 < u → 262144 * sinAt y ≤ 262144 * cosAt y + whole → 262144 * cosAt y ≤ 262144 * sinAt y + whole → 0 < cosAt y → Good u u y
+diagonal-good u y p h k c = omega (arith, mul-le-mul-left u h, mul-le-mul-left u k, mul-pos p c)
+
+unfoldable y90 : ℕ
+unfolding H t90
+y90 = t90 - H
+
+unfoldable y180 : ℕ
+unfolding H t180
+y180 = t180 - 2 * H
+
+unfoldable y45 : ℕ
+unfolding H t45
+y45 = H - t45
+
+unfoldable y135 : ℕ
+unfolding H t135
+y135 = 2 * H - t135
+
+at-0 : 0 + 0 * H ≡ 0
+unfolding H
+at-0 = refl
+
+at-90 : y90 + 1 * H ≡ t90
+unfolding y90
+at-90 = refl
+
+at-180 : y180 + 2 * H ≡ t180
+unfolding y180
+at-180 = refl
+
+at-45 : y45 + t45 ≡ 1 * H
+unfolding y45
+at-45 = refl
+
+at-135 : y135 + t135 ≡ 2 * H
+unfolding y135
+at-135 = refl
+
+record Axis (y : ℕ) : Type 0 where
+  half : 2 * y < H
+  small : 262144 * sinAt y ≤ whole
+  ahead : 0 < cosAt y
+
+record Diagonal (y : ℕ) : Type 0 where
+  half : 2 * y < H
+  over : 262144 * sinAt y ≤ 262144 * cosAt y + whole
+  beneath : 262144 * cosAt y ≤ 262144 * sinAt y + whole
+  ahead : 0 < cosAt y
+
+axis-0 : Axis 0
+unfolding H whole sum coef D
+axis-0 = record { half = lit< tt; small = lit≤ tt; ahead = lit< tt }
+
+axis-90 : Axis y90
+unfolding H whole sum coef D y90
+axis-90 = record { half = lit< tt; small = lit≤ tt; ahead = lit< tt }
+
+axis-180 : Axis y180
+unfolding H whole sum coef D y180
+axis-180 = record { half = lit< tt; small = lit≤ tt; ahead = lit< tt }
+
+diagonal-45 : Diagonal y45
+unfolding H whole sum coef D y45
+diagonal-45 = record { half = lit< tt; over = lit≤ tt; beneath = lit≤ tt; ahead = lit< tt }
+
+diagonal-135 : Diagonal y135
+unfolding H whole sum coef D y135
+diagonal-135 = record { half = lit< tt; over = lit≤ tt; beneath = lit≤ tt; ahead = lit< tt }
+
+abbrev Answer : Bool → Bool → ℕ → ℕ → ℕ → Type 0
+Answer s l u v t = Along (signed s (u * part)) (signed l (v * part)) (sine (signed s t)) (cosine (signed s t))
+
+axis-1 : (s : Bool) (v : ℕ) → 0 < v → Answer s false 0 v 0
+axis-1 s v p = meets-1 s 0 v 0 0 (axis-0 .half) at-0 (axis-good v 0 p (axis-0 .small) (axis-0 .ahead))
+
+axis-2 : (s l : Bool) (u : ℕ) → 0 < u → Answer s l u 0 t90
+axis-2 s false u p =
+    subst (λ (z : ℤ). Along (signed s (u * part)) z (sine (signed s t90)) (cosine (signed s t90))) (flat true false)
+    (meets-3 s u 0 t90 y90 (axis-90 .half) at-90 (axis-good u y90 p (axis-90 .small) (axis-90 .ahead)))
+axis-2 s true u p = meets-3 s u 0 t90 y90 (axis-90 .half) at-90 (axis-good u y90 p (axis-90 .small) (axis-90 .ahead))
+
+axis-3 : (s : Bool) (v : ℕ) → 0 < v → Answer s true 0 v t180
+axis-3 s v p = meets-5 s v t180 y180 (axis-180 .half) at-180 (axis-good v y180 p (axis-180 .small) (axis-180 .ahead))
+
+diagonal-1 : (s : Bool) (u : ℕ) → 0 < u → Answer s false u u t45
+diagonal-1 s u p = meets-2 s u u t45 y45 (diagonal-45 .half) at-45 (diagonal-good u y45 p (diagonal-45 .over) (diagonal-45 .beneath) (diagonal-45 .ahead))
+
+diagonal-2 : (s : Bool) (u : ℕ) → 0 < u → Answer s true u u t135
+diagonal-2 s u p = meets-4 s u u t135 y135 (diagonal-135 .half) at-135 (diagonal-good u y135 p (diagonal-135 .over) (diagonal-135 .beneath) (diagonal-135 .ahead))
+
+-- ---- the eighths there
+in-0 : (s : Bool) → InEighth s 0 (fin s 0 (pos 0))
+in-0 s = record { parts = 0; val = (refl, unfold D in refl); low = unfold D in lit≤ tt; high = unfold D in lit≤ tt }
+
+in-45 : (s : Bool) → InEighth s 0 (fin s 45 (pos 0))
+in-45 s = record { parts = 45 * D; val = (refl, unfold D in refl); low = unfold D in lit≤ tt; high = unfold D in lit≤ tt }
+
+in-90 : (s : Bool) → InEighth s 1 (fin s 45 (pos 1))
+in-90 s = record { parts = 90 * D; val = (refl, unfold D in refl); low = unfold D in lit≤ tt; high = unfold D in lit≤ tt }
+
+past-90 : (s : Bool) → InEighth s 2 (fin s 45 (pos 1))
+past-90 s = record { parts = 90 * D; val = (refl, unfold D in refl); low = unfold D in lit≤ tt; high = unfold D in lit≤ tt }
+
+in-135 : (s : Bool) → InEighth s 3 (fin s 135 (pos 0))
+in-135 s = record { parts = 135 * D; val = (refl, unfold D in refl); low = unfold D in lit≤ tt; high = unfold D in lit≤ tt }
+
+in-180 : (s : Bool) → InEighth s 3 (fin s 45 (pos 2))
+in-180 s = record { parts = 180 * D; val = (refl, unfold D in refl); low = unfold D in lit≤ tt; high = unfold D in lit≤ tt }
+
+-- ---- all of it
+abbrev Meets : Float → Float → ℕ → Type 0
+Meets y x e = Along (parts y) (parts x) (sine (parts (radiansOf (arctangentOf y x)))) (cosine (parts (radiansOf (arctangentOf y x)))) × InEighth (signOf y) e (arctangentOf y x)
+
+-- the sizes of multiples of a half compare as their counts
+abs-val : (x : Float) → T (isHalves x) → Val (absOf x) (halvesOf x * part)
+unfolding isHalves absOf
+abs-val nan h = absurd h
+abs-val (inf s) h = absurd h
+abs-val (fin s m e) h = (refl, go (m * up e) (halvesOf (fin s m e)) (down e) D (exact s m e (unfold isHalves in h)) D-is)
   where
     go : (n k d D : ℕ) → n * 2 ≡ k * d → D ≡ 2 * part → n * D ≡ k * part * d
     go n k d D f g = omega (arith, ap (λ (z : ℕ). z * part) f, ap (λ (z : ℕ). n * z) g)
 
--- right's sign, which a zero has too
-right-is : (x : Float) → T (isHalves x) → parts x ≡ signed (lt x plusZero) (halvesOf x * part)
-right-is x h = parts-are x h ∙ go (eq x plusZero) refl
-  where
-    none : (n : ℕ) → 0 ≡ n → signed (signOf x) (n * part) ≡ signed (lt x plusZero) (n * part)
-    none n e = subst (λ (k : ℕ). signed (signOf x) (k * part) ≡ signed (lt x plusZero) (k * part)) e (flat (signOf x) (lt x plusZero))
+is-steep : (y x : Float) → T (isHalves y) → T (isHalves x) → halvesOf x < halvesOf y → lt (absOf x) (absOf y) ≡ true
+is-steep y x hy hx l = lt-is (absOf x) (absOf y) (halvesOf x * part) (halvesOf y * part) 124 (lit≤ tt) (abs-val x hx) (abs-val y hy) (mul-lt-mul-of-pos-right l part-pos)
 
-    go : (b : Bool) → eq x plusZero ≡ b → signed (signOf x) (halvesOf x * part) ≡ signed (lt x plusZero) (halvesOf x * part)
-    go true e = none (halvesOf x) (size-zero x h e)
-    go false e = ap (λ (a : Bool). signed a (halvesOf x * part)) (sym (sign-other x (no e)))
+is-flat : (y x : Float) → T (isHalves y) → T (isHalves x) → halvesOf y ≤ halvesOf x → lt (absOf x) (absOf y) ≡ false
+is-flat y x hy hx l = lt-not (absOf x) (absOf y) (halvesOf x * part) (halvesOf y * part) 124 (lit≤ tt) (abs-val x hx) (abs-val y hy) (mul-le-mul-right part l)
 
--- ---- the range
-or-left : (a b : Bool) → T a → T (a || b)
-or-left true b t = tt
-or-left false b t = absurd t
+eighth-is : (y x : Float) (l t : Bool) → lt x plusZero ≡ l → lt (absOf x) (absOf y) ≡ t → cond l (cond t 2 3) (cond t 1 0) ≡ eighthOf y x
+eighth-is y x l t e f = sym (rw (e, f) refl)
 
-or-right : (a b : Bool) → T b → T (a || (b && true))
-or-right true b t = tt
-or-right false true t = tt
-or-right false false t = t
+module _ (y x : Float) (d : Domain y x) where
+  abbrev u : ℕ
+  u = halvesOf y
 
-few : (a d n : ℕ) → n ≤ 11796480 → a * 65536 ≡ n * d → a * 1 ≤ 180 * d
-few a d n h e = le-of-mul-le-mul-right {k = 65536} (omega (arith, mul-le-mul-right d h)) (lit< tt)
+  abbrev v : ℕ
+  v = halvesOf x
 
-some : (a d : ℕ) → 0 < d → 0 < a * 1 + 180 * d
-some a d p = omega arith
+  abbrev s : Bool
+  s = signOf y
 
-some' : (a d : ℕ) → 0 < d → 0 < 180 * d + a * 1
-some' a d p = omega arith
+  hy : T (isHalves y)
+  hy = d .halves .up
 
--- the test that `le` makes of two sizes
-no-more : (p q a b : ℕ) → p ≤ q → (p ≡ q → a ≡ b) → T (ltb p q || (eqb a b && true))
-no-more p q a b h f =
-    elim (eq-or-lt-of-le h) [
-      | inl e ↦ or-right (ltb p q) (eqb a b) (eq→eqb (f e))
-      | inr l ↦ or-left (ltb p q) (eqb a b && true) (lt→ltb p q l)
-    ]
+  hx : T (isHalves x)
+  hx = d .halves .right
 
-within : (x : Float) (s : Bool) (n : ℕ) → n ≤ 11796480 → HasValue x s n 65536 → T (le (fin true 45 (pos 2)) x) × T (le x (fin false 45 (pos 2)))
-unfolding le lt eq
-within nan s n h v = absurd v
-within (inf t) s n h v = absurd v
-within (fin true m e) s n h v =
-    (no-more (m * up e * 1) (180 * down e) (180 * down e) (m * up e * 1) (few (m * up e) (down e) n h (v .1)) sym, or-left (ltb 0 (m * up e * 1 + 180 * down e)) _ (lt→ltb 0 (m * up e * 1 + 180 * down e) (some (m * up e) (down e) (down-pos e))))
-within (fin false m e) s n h v =
-    (or-left (ltb 0 (180 * down e + m * up e * 1)) _ (lt→ltb 0 (180 * down e + m * up e * 1) (some' (m * up e) (down e) (down-pos e))), no-more (m * up e * 1) (180 * down e) (m * up e * 1) (180 * down e) (few (m * up e) (down e) n h (v .1)) (λ (z : m * up e * 1 ≡ 180 * down e). z))
+  -- the answer is a, whose product is t
+  exactly : (l : Bool) (a : Float) (t u' v' : ℕ) → lt x plusZero ≡ l → u ≡ u' → v ≡ v' → arctangentOf y x ≡ a → parts (radiansOf a) ≡ signed s t → Answer s l u' v' t → (e : ℕ)
+      → InEighth s e a → e ≡ eighthOf y x → Meets y x (eighthOf y x)
+  exactly l a t u' v' e eu ev f p k n i g = (
+    by (parts y) (parts x) (parts (radiansOf (arctangentOf y x))) (signed s (u' * part)) (signed l (v' * part)) (signed s t)
+        (parts-are y hy ∙ ap (λ (z : ℕ). signed s (z * part)) eu) (right-is x hx ∙ ap (λ (b : Bool). signed b (v * part)) e ∙ ap (λ (z : ℕ). signed l (z * part)) ev)
+        (ap (λ (z : Float). parts (radiansOf z)) f ∙ p) k,
+    subst (λ (z : ℕ). InEighth s z (arctangentOf y x)) g (subst (λ (z : Float). InEighth s n z) (sym f) i),
+  )
 
--- ---- the axes and the diagonals
-exactly : (y x : Float) (n m : ℕ) (e : ℤ) → turn (lt x plusZero) (halvesOf y) (halvesOf x) ≡ n → round binary32 false n 65536 ≡ fin false m e → arctangentOf y x ≡ fin (signOf y) m e
-unfolding degreesOf
-exactly y x n m e f g =
-    ap (λ (k : ℕ). cond (signOf y) (neg (round binary32 false k 65536)) (round binary32 false k 65536)) f ∙ ap (λ (z : Float). cond (signOf y) (neg z) z) g ∙ both (signOf y)
-  where
-    both : (s : Bool) → cond s (neg (fin false m e)) (fin false m e) ≡ fin s m e
-    both true = unfold neg in refl
-    both false = refl
+  flat-is : u ≡ 0 → Meets y x (eighthOf y x)
+  flat-is e = go (lt x plusZero) refl
+    where
+      v0 : 0 < v
+      v0 = some u v (d .some) e
+        where
+          some : (u v : ℕ) → 0 < u + v → u ≡ 0 → 0 < v
+          some u v h e = omega arith
 
-flat-turn : (l : Bool) (v : ℕ) → 0 < v → turn l 0 v ≡ cond l 11796480 0
-unfolding turn
-flat-turn l v h = ap (λ (b : Bool). cond b (cond l (11796480 - eighth 0 v) (eighth 0 v)) (cond l (5898240 + eighth v 0) (5898240 - eighth v 0))) (le-leb 0 v (omega arith)) ∙ ap (λ (z : ℕ). cond l (11796480 - z) z) (eighth-0 v h)
+      flat : lt (absOf x) (absOf y) ≡ false
+      flat = is-flat y x hy hx (least u v e)
+        where
+          least : (u v : ℕ) → u ≡ 0 → u ≤ v
+          least u v e = omega arith
 
-steep-turn : (l : Bool) (u : ℕ) → 0 < u → turn l u 0 ≡ 5898240
-unfolding turn
-steep-turn l u h =
-    ap (λ (b : Bool). cond b (cond l (11796480 - eighth u 0) (eighth u 0)) (cond l (5898240 + eighth 0 u) (5898240 - eighth 0 u))) (lt-leb u 0 h) ∙ ap (λ (z : ℕ). cond l (5898240 + z) (5898240 - z)) (eighth-0 u h) ∙ same l
-  where
-    same : (l : Bool) → cond {A = ℕ} l 5898240 5898240 ≡ 5898240
-    same true = refl
-    same false = refl
+      go : (l : Bool) → lt x plusZero ≡ l → Meets y x (eighthOf y x)
+      go false l = exactly false (fin s 0 (pos 0)) 0 0 v l e refl (axis-right y x d e l) (p0 s) (axis-1 s v v0) 0 (in-0 s) (eighth-is y x false false l flat)
+      go true l = exactly true (fin s 45 (pos 2)) t180 0 v l e refl (axis-left y x d e l) (p180 s) (axis-3 s v v0) 3 (in-180 s) (eighth-is y x true false l flat)
 
-even-turn : (l : Bool) (u : ℕ) → 0 < u → turn l u u ≡ cond l 8847360 2949120
-unfolding turn
-even-turn l u h = ap (λ (b : Bool). cond b (cond l (11796480 - eighth u u) (eighth u u)) (cond l (5898240 + eighth u u) (5898240 - eighth u u))) (le-leb u u (le-refl u)) ∙ ap (λ (z : ℕ). cond l (11796480 - z) z) (eighth-45 u h)
+  steep-is : v ≡ 0 → Meets y x (eighthOf y x)
+  steep-is e = go (lt x plusZero) refl
+    where
+      u0 : 0 < u
+      u0 = some u v (d .some) e
+        where
+          some : (u v : ℕ) → 0 < u + v → v ≡ 0 → 0 < u
+          some u v h e = omega arith
 
-turn-is : (y x : Float) (l : Bool) (u v : ℕ) → lt x plusZero ≡ l → halvesOf y ≡ u → halvesOf x ≡ v → turn (lt x plusZero) (halvesOf y) (halvesOf x) ≡ turn l u v
-turn-is y x l u v a b c = cc
+      steep : lt (absOf x) (absOf y) ≡ true
+      steep = is-steep y x hy hx (subst (λ (z : ℕ). z < u) (sym e) u0)
 
--- 0, 180 and 90, with up's sign
-axis-right : (y x : Float) → halvesOf y ≡ 0 → lt x plusZero ≡ false → 0 < halvesOf x → arctangentOf y x ≡ fin (signOf y) 0 (pos 0)
-axis-right y x e l h = exactly y x 0 0 (pos 0) (turn-is y x false 0 (halvesOf x) l e refl ∙ flat-turn false (halvesOf x) h) (unfold round in refl)
+      go : (l : Bool) → lt x plusZero ≡ l → Meets y x (eighthOf y x)
+      go false l = exactly false (fin s 45 (pos 1)) t90 u 0 l refl e (axis-up y x d e) (p90 s) (axis-2 s false u u0) 1 (in-90 s) (eighth-is y x false true l steep)
+      go true l = exactly true (fin s 45 (pos 1)) t90 u 0 l refl e (axis-up y x d e) (p90 s) (axis-2 s true u u0) 2 (past-90 s) (eighth-is y x true true l steep)
 
-axis-left : (y x : Float) → halvesOf y ≡ 0 → lt x plusZero ≡ true → 0 < halvesOf x → arctangentOf y x ≡ fin (signOf y) 45 (pos 2)
-axis-left y x e l h = exactly y x 11796480 45 (pos 2) (turn-is y x true 0 (halvesOf x) l e refl ∙ flat-turn true (halvesOf x) h) (unfold round in refl)
+  even-is : u ≡ v → 0 < v → Meets y x (eighthOf y x)
+  even-is e v0 = go (lt x plusZero) refl
+    where
+      flat : lt (absOf x) (absOf y) ≡ false
+      flat = is-flat y x hy hx (same u v e)
+        where
+          same : (u v : ℕ) → u ≡ v → u ≤ v
+          same u v e = omega arith
 
-axis-up : (y x : Float) → halvesOf x ≡ 0 → 0 < halvesOf y → arctangentOf y x ≡ fin (signOf y) 45 (pos 1)
-axis-up y x e h = exactly y x 5898240 45 (pos 1) (turn-is y x (lt x plusZero) (halvesOf y) 0 refl refl e ∙ steep-turn (lt x plusZero) (halvesOf y) h) (unfold round in refl)
+      go : (l : Bool) → lt x plusZero ≡ l → Meets y x (eighthOf y x)
+      go false l = exactly false (fin s 45 (pos 0)) t45 v v l e refl (diagonal-right y x d e l) (p45 s) (diagonal-1 s v v0) 0 (in-45 s) (eighth-is y x false false l flat)
+      go true l = exactly true (fin s 135 (pos 0)) t135 v v l e refl (diagonal-left y x d e l) (p135 s) (diagonal-2 s v v0) 3 (in-135 s) (eighth-is y x true false l flat)
 
--- 45 and 135, with up's sign
-diagonal-right : (y x : Float) → halvesOf y ≡ halvesOf x → lt x plusZero ≡ false → 0 < halvesOf x → arctangentOf y x ≡ fin (signOf y) 45 (pos 0)
-diagonal-right y x e l h = exactly y x 2949120 45 (pos 0) (turn-is y x false (halvesOf x) (halvesOf x) l e refl ∙ even-turn false (halvesOf x) h) (unfold round in refl)
+  slanted-is : 0 < u → 0 < v → (u ≡ v → ⊥) → Meets y x (eighthOf y x)
+  slanted-is u0 v0 n = go (decLt (16 * u) (7 * v)) (decLt (16 * u) (39 * v))
+    where
+      at-low : Low u v → Meets y x (eighthOf y x)
+      at-low w = subst (λ (e : ℕ). Meets y x e) (eighth-is y x (lt x plusZero) false refl (is-flat y x hy hx (w .flat))) (low y x hy hx u0 v0 w)
 
-diagonal-left : (y x : Float) → halvesOf y ≡ halvesOf x → lt x plusZero ≡ true → 0 < halvesOf x → arctangentOf y x ≡ fin (signOf y) 135 (pos 0)
-diagonal-left y x e l h = exactly y x 8847360 135 (pos 0) (turn-is y x true (halvesOf x) (halvesOf x) l e refl ∙ even-turn true (halvesOf x) h) (unfold round in refl)
+      at-high : High u v → Meets y x (eighthOf y x)
+      at-high w = subst (λ (e : ℕ). Meets y x e) (eighth-is y x (lt x plusZero) true refl (is-steep y x hy hx (w .steep))) (high y x hy hx u0 v0 w)
 
--- ---- all of it
-pub asked : (y x : Float) → Domain y x → Arctangent y x (arctangentOf y x)
-unfolding degreesOf radiansOf
-asked y x d =
-    let some : 0 < halvesOf y + halvesOf x = d .some in
-    let s = signOf y in
-    let n = turn (lt x plusZero) (halvesOf y) (halvesOf x) in
-    let h : n ≤ 11796480 = turn-most (lt x plusZero) (halvesOf y) (halvesOf x) some in
-    let r = round binary32 false n 65536 in
-    let v : HasValue (cond s (neg r) r) s n 65536 = either s r n 65536 (degrees n h) in
-    let t : mul binary32 (cond s (neg r) r) degree ≡ round binary32 s (n * 9370165) (2 ^ 45) = times s (cond s (neg r) r) n v in
-    let p : parts (mul binary32 (cond s (neg r) r) degree) ≡ signed s (product n) = ap parts t ∙ product-is n h s .parts-are in
-    let w = within (cond s (neg r) r) s n h v in
-    record {
-      low = w .0;
-      high = w .1;
-      along =
-          by (parts y) (parts x) (parts (mul binary32 (cond s (neg r) r) degree)) (signed s (halvesOf y * part)) (signed (lt x plusZero) (halvesOf x * part)) (signed s (product n)) (parts-are y (d .halves .up)) (right-is x (d .halves .right)) p
-          (all s (lt x plusZero) (halvesOf y) (halvesOf x) (halves-few y) (halves-few x) some);
-      axis-right = λ e l. axis-right y x e l (omega arith);
-      axis-left = λ e l. axis-left y x e l (omega arith);
-      axis-up = λ e. axis-up y x e (omega arith);
-      diagonal-right = λ e l. diagonal-right y x e l (omega arith);
-      diagonal-left = λ e l. diagonal-left y x e l (omega arith);
-    }
-  where
-    by : (a b t a' b' t' : ℤ) → a ≡ a' → b ≡ b' → t ≡ t' → Along a' b' (sine t') (cosine t') → Along a b (sine t) (cosine t)
-    by a b t a' b' t' e f g h =
-        subst (λ (z : ℤ). Along z b (sine t) (cosine t)) (sym e) (subst (λ (z : ℤ). Along a' z (sine t) (cosine t)) (sym f) (subst (λ (z : ℤ). Along a' b' (sine z) (cosine z)) (sym g) h))
+      go : Dec (16 * u < 7 * v) → Dec (16 * u < 39 * v) → Meets y x (eighthOf y x)
+      go (yes a) b = at-low (first-low u v u0 (halves-few x) a)
+      go (no a) (no b) = at-high (steep-high u v v0 (halves-few y) (omega arith))
+      go (no a) (yes b) = ⊎-elim at-low at-high (between u v v0 (halves-few x) (halves-few y) (omega arith) b n)
+
+  all : Meets y x (eighthOf y x)
+  all = go (decLt 0 u) (decLt 0 v) (decLt u v) (decLt v u)
+    where
+      none : (n : ℕ) → (0 < n → ⊥) → n ≡ 0
+      none n h = omega arith
+
+      same : (m n : ℕ) → (m < n → ⊥) → (n < m → ⊥) → m ≡ n
+      same m n h k = omega arith
+
+      less : (m n : ℕ) → m < n → m ≡ n → ⊥
+      less m n h e = omega arith
+
+      more : (m n : ℕ) → n < m → m ≡ n → ⊥
+      more m n h e = omega arith
+
+      go : Dec (0 < u) → Dec (0 < v) → Dec (u < v) → Dec (v < u) → Meets y x (eighthOf y x)
+      go (no a) b c e = flat-is (none u a)
+      go (yes a) (no b) c e = steep-is (none v b)
+      go (yes a) (yes b) (no c) (no e) = even-is (same u v c e) b
+      go (yes a) (yes b) (yes c) e = slanted-is a b (less u v c)
+      go (yes a) (yes b) (no c) (yes e) = slanted-is a b (more u v e)
+
+  -- the eighth of a turn that the answer lies in
+  pub in-eighth : InEighth s (eighthOf y x) (arctangentOf y x)
+  in-eighth = all .1
+
+  pub in-turns : InTurn (arctangentOf y x)
+  in-turns =
+      in-turn (arctangentOf y x) s (in-eighth .parts)
+      (go (lt x plusZero) (lt (absOf x) (absOf y)) (in-eighth .parts) D (in-eighth .high)) (in-eighth .val)
+    where
+      go : (l t : Bool) (r k : ℕ) → r ≤ 45 * (cond l (cond t 2 3) (cond t 1 0) + 1) * k → r ≤ 180 * k
+      go true true r k h = omega arith
+      go true false r k h = omega arith
+      go false true r k h = omega arith
+      go false false r k h = omega arith
+
+  pub asked : Arctangent y x (arctangentOf y x)
+  asked = record {
+    low = in-turns .0;
+    high = in-turns .1;
+    along = all .0;
+    axis-right = axis-right y x d;
+    axis-left = axis-left y x d;
+    axis-up = axis-up y x d;
+    diagonal-right = diagonal-right y x d;
+    diagonal-left = diagonal-left y x d;
+  }

@@ -12,13 +12,18 @@ use Rattle.angle.specs.Meaning.{H, whole, signed, mod4, placed, sine, co
 use Rattle.angle.proofs.Signs.{size, none, opposite, product, apart}
 use Rattle.angle.proofs.Terms.{sinAt, cosAt}
 use Rattle.angle.proofs.Placing.{sine-is, cosine-is}
-use Rattle.angle.proofs.arctangent.Near.{Good}
+
+-- y is the angle of the direction that is `up` up and `right` to the right, as 01 asks.
+pub record Good (up right y : ℕ) : Type 0 where
+  pub over : 262144 * (right * sinAt y) ≤ 262144 * (up * cosAt y) + (right + up) * whole
+  pub beneath : 262144 * (up * cosAt y) ≤ 262144 * (right * sinAt y) + (right + up) * whole
+  pub ahead : 0 < right * cosAt y + up * sinAt y
 
 -- a half, in D-ths
 unfoldable pub part : ℕ
 part = 2 ^ 148
 
-part-pos : 0 < part
+pub part-pos : 0 < part
 unfolding part
 part-pos = lit< tt
 
@@ -61,26 +66,39 @@ at s l a c g u v S C t e f e1 e2 e3 e4 hi lo front =
 -- ---- the eighths of a turn: y past 0, short of 90, past 90, short of 180
 pub meets-1 : (s : Bool) (u v x y : ℕ) → 2 * y < H → y + 0 * H ≡ x → Good u v y → Along (signed s (u * part)) (signed false (v * part)) (sine (signed s x)) (cosine (signed s x))
 unfolding mod4 placed
-meets-1 false u v x y h e g = at false false false false false u v (sinAt y) (cosAt y) (signed false x) (sine-is false false x 0 y h e) (cosine-is false false x 0 y h e) refl refl refl refl (g .over) (g .beneath) (g .ahead)
-meets-1 true u v x y h e g = at true false true false true u v (sinAt y) (cosAt y) (signed true x) (sine-is true false x 0 y h e) (cosine-is true false x 0 y h e) refl refl refl refl (g .over) (g .beneath) (g .ahead)
+meets-1 false u v x y h e g =
+    at false false false false false u v (sinAt y) (cosAt y) (signed false x) (sine-is false false x 0 y h e) (cosine-is false false x 0 y h e) refl refl refl refl (g .over) (g .beneath) (g .ahead)
+meets-1 true u v x y h e g =
+    at true false true false true u v (sinAt y) (cosAt y) (signed true x) (sine-is true false x 0 y h e) (cosine-is true false x 0 y h e) refl refl refl refl (g .over) (g .beneath) (g .ahead)
 
-swap : (u v y : ℕ) → Good v u y → (262144 * (v * cosAt y) ≤ 262144 * (u * sinAt y) + (v + u) * whole) × (262144 * (u * sinAt y) ≤ 262144 * (v * cosAt y) + (v + u) * whole) × (0 < v * sinAt y + u * cosAt y)
+swap : (u v y : ℕ) → Good v u y
+    → (262144 * (v * cosAt y) ≤ 262144 * (u * sinAt y) + (v + u) * whole) × (262144 * (u * sinAt y) ≤ 262144 * (v * cosAt y) + (v + u) * whole) × (0 < v * sinAt y + u * cosAt y)
 swap u v y g = (omega (arith, g .beneath), omega (arith, g .over), omega (arith, g .ahead))
 
 pub meets-2 : (s : Bool) (u v x y : ℕ) → 2 * y < H → y + x ≡ 1 * H → Good v u y → Along (signed s (u * part)) (signed false (v * part)) (sine (signed s x)) (cosine (signed s x))
 unfolding mod4 placed
-meets-2 false u v x y h e g = let w = swap u v y g in at false false false false false u v (cosAt y) (sinAt y) (signed false x) (sine-is false true x 1 y h e) (cosine-is false true x 1 y h e ∙ opposite true (sinAt y)) refl refl refl refl (w .0) (w .1) (w .2)
-meets-2 true u v x y h e g = let w = swap u v y g in at true false true false true u v (cosAt y) (sinAt y) (signed true x) (sine-is true true x 1 y h e) (cosine-is true true x 1 y h e) refl refl refl refl (w .0) (w .1) (w .2)
+meets-2 false u v x y h e g =
+    let w = swap u v y g in at false false false false false u v (cosAt y) (sinAt y) (signed false x) (sine-is false true x 1 y h e)
+    (cosine-is false true x 1 y h e ∙ opposite true (sinAt y)) refl refl refl refl (w .0) (w .1) (w .2)
+meets-2 true u v x y h e g =
+    let w = swap u v y g in at true false true false true u v (cosAt y) (sinAt y) (signed true x) (sine-is true true x 1 y h e) (cosine-is true true x 1 y h e) refl refl refl refl (w .0) (w .1) (w .2)
 
 pub meets-3 : (s : Bool) (u v x y : ℕ) → 2 * y < H → y + 1 * H ≡ x → Good v u y → Along (signed s (u * part)) (signed true (v * part)) (sine (signed s x)) (cosine (signed s x))
 unfolding mod4 placed
-meets-3 false u v x y h e g = let w = swap u v y g in at false true false true true u v (cosAt y) (sinAt y) (signed false x) (sine-is false false x 1 y h e) (cosine-is false false x 1 y h e) refl refl refl refl (w .0) (w .1) (w .2)
-meets-3 true u v x y h e g = let w = swap u v y g in at true true true true false u v (cosAt y) (sinAt y) (signed true x) (sine-is true false x 1 y h e) (cosine-is true false x 1 y h e) refl refl refl refl (w .0) (w .1) (w .2)
+meets-3 false u v x y h e g =
+    let w = swap u v y g in at false true false true true u v (cosAt y) (sinAt y) (signed false x) (sine-is false false x 1 y h e) (cosine-is false false x 1 y h e) refl refl refl refl (w .0)
+    (w .1) (w .2)
+meets-3 true u v x y h e g =
+    let w = swap u v y g in at true true true true false u v (cosAt y) (sinAt y) (signed true x) (sine-is true false x 1 y h e) (cosine-is true false x 1 y h e) refl refl refl refl (w .0) (w .1)
+    (w .2)
 
 pub meets-4 : (s : Bool) (u v x y : ℕ) → 2 * y < H → y + x ≡ 2 * H → Good u v y → Along (signed s (u * part)) (signed true (v * part)) (sine (signed s x)) (cosine (signed s x))
 unfolding mod4 placed
-meets-4 false u v x y h e g = at false true false true true u v (sinAt y) (cosAt y) (signed false x) (sine-is false true x 2 y h e ∙ opposite true (sinAt y)) (cosine-is false true x 2 y h e) refl refl refl refl (g .over) (g .beneath) (g .ahead)
-meets-4 true u v x y h e g = at true true true true false u v (sinAt y) (cosAt y) (signed true x) (sine-is true true x 2 y h e) (cosine-is true true x 2 y h e) refl refl refl refl (g .over) (g .beneath) (g .ahead)
+meets-4 false u v x y h e g =
+    at false true false true true u v (sinAt y) (cosAt y) (signed false x) (sine-is false true x 2 y h e ∙ opposite true (sinAt y)) (cosine-is false true x 2 y h e) refl refl refl refl (g .over)
+    (g .beneath) (g .ahead)
+meets-4 true u v x y h e g =
+    at true true true true false u v (sinAt y) (cosAt y) (signed true x) (sine-is true true x 2 y h e) (cosine-is true true x 2 y h e) refl refl refl refl (g .over) (g .beneath) (g .ahead)
 
 -- a zero has either sign
 pub flat : (s t : Bool) → signed s (0 * part) ≡ signed t (0 * part)
@@ -94,4 +112,5 @@ meets-5 false v x y h e g =
     (at true true true true false 0 v (sinAt y) (cosAt y) (signed false x) (sine-is false false x 2 y h e) (cosine-is false false x 2 y h e) refl refl refl refl (g .over) (g .beneath) (g .ahead))
 meets-5 true v x y h e g =
     subst (λ (z : ℤ). Along z (signed true (v * part)) (sine (signed true x)) (cosine (signed true x))) (flat false true)
-    (at false true false true true 0 v (sinAt y) (cosAt y) (signed true x) (sine-is true false x 2 y h e ∙ opposite true (sinAt y)) (cosine-is true false x 2 y h e) refl refl refl refl (g .over) (g .beneath) (g .ahead))
+    (at false true false true true 0 v (sinAt y) (cosAt y) (signed true x) (sine-is true false x 2 y h e ∙ opposite true (sinAt y)) (cosine-is true false x 2 y h e) refl refl refl refl (g .over)
+    (g .beneath) (g .ahead))

@@ -1,4 +1,4 @@
--- The sine and the cosine after a step d from x, by their values at x: two terms of Taylor's, and no more than Q besides. Assumes nothing.
+-- As arctangent/Step, for the smaller steps here: the sine and the cosine after a step d from x, by their values at x: two terms of Taylor's, and no more than Q besides. Assumes nothing.
 use mathlib.Core.Path.{_≡_, refl, ap, sym, subst}
 use mathlib.Core.List.{List, [], _∷_}
 use Prim.Native.Nat.{ℕ, _+_, _*_, _-_, _≤_}
@@ -88,11 +88,15 @@ fall k d sx sx' sy sy' c c' q hx hy hc u l =
     omega (arith, mul-sub k sy sy', mul-sub k sx sx', mul-sub d c c', mul-le-mul-left k hx, mul-le-mul-left k hy, mul-le-mul-left d hc)
 
 -- v and w are the sine's terms with a plus: the cosine's slope leaves out the last one, w
-sink : (k d cy cy' cx cx' s s' v w r q : ℕ) → cy' ≤ cy → cx' ≤ cx → s' ≤ s → v + w ≡ s → d * w ≤ r → k * cy + r ≤ k * cx + d * s' + q → k * cx' + d * v ≤ k * cy' → k * (cy - cy') + d * (s - s') ≤ k * (cx - cx') + q
-sink k d cy cy' cx cx' s s' v w r q hy hx hs e h u l = omega (arith, mul-sub k cy cy', mul-sub k cx cx', mul-sub d s s', mul-le-mul-left k hy, mul-le-mul-left k hx, mul-le-mul-left d hs, ap (λ (n : ℕ). d * n) e)
+sink : (k d cy cy' cx cx' s s' v w r q : ℕ) → cy' ≤ cy → cx' ≤ cx → s' ≤ s → v + w ≡ s → d * w ≤ r → k * cy + r ≤ k * cx + d * s' + q → k * cx' + d * v ≤ k * cy'
+    → k * (cy - cy') + d * (s - s') ≤ k * (cx - cx') + q
+sink k d cy cy' cx cx' s s' v w r q hy hx hs e h u l =
+    omega (arith, mul-sub k cy cy', mul-sub k cx cx', mul-sub d s s', mul-le-mul-left k hy, mul-le-mul-left k hx, mul-le-mul-left d hs, ap (λ (n : ℕ). d * n) e)
 
-hold : (k d cy cy' cx cx' s s' v w r q : ℕ) → cy' ≤ cy → cx' ≤ cx → s' ≤ s → v + w ≡ s → d * w ≤ r → k * cy' + r ≤ k * cx' + d * v + q → k * cx + d * s' ≤ k * cy → k * (cx - cx') ≤ k * (cy - cy') + d * (s - s') + q
-hold k d cy cy' cx cx' s s' v w r q hy hx hs e h u l = omega (arith, mul-sub k cy cy', mul-sub k cx cx', mul-sub d s s', mul-le-mul-left k hy, mul-le-mul-left k hx, mul-le-mul-left d hs, ap (λ (n : ℕ). d * n) e)
+hold : (k d cy cy' cx cx' s s' v w r q : ℕ) → cy' ≤ cy → cx' ≤ cx → s' ≤ s → v + w ≡ s → d * w ≤ r → k * cy' + r ≤ k * cx' + d * v + q → k * cx + d * s' ≤ k * cy
+    → k * (cx - cx') ≤ k * (cy - cy') + d * (s - s') + q
+hold k d cy cy' cx cx' s s' v w r q hy hx hs e h u l =
+    omega (arith, mul-sub k cy cy', mul-sub k cx cx', mul-sub d s s', mul-le-mul-left k hy, mul-le-mul-left k hx, mul-le-mul-left d hs, ap (λ (n : ℕ). d * n) e)
 
 -- ---- the four bounds
 
@@ -127,12 +131,14 @@ module _ (x d : ℕ) (hb : x + d ≤ B) (hd : d ≤ Most) where
   most-cos : D * cosL (x + d) + d * sinL x ≤ D * cosL x + Q
   most-cos =
       sink D d (eval cosUp (x + d)) (eval cosDown (x + d)) (eval cosUp x) (eval cosDown x) (eval sinUp x) (eval sinDown x) (D * dev cosDown x) (eval last x) (Most * eval last B) Q
-      (cos-order hb) (cos-order hx) (sin-order hx) (slope-cosDown x) end (up cosUp x d Most B Q (Most * eval last B) D (eval sinDown x) (slope-cosUp x) c-cosUp hb hd) (low cosDown x d D (D * dev cosDown x) refl)
+      (cos-order hb) (cos-order hx) (sin-order hx) (slope-cosDown x) end (up cosUp x d Most B Q (Most * eval last B) D (eval sinDown x) (slope-cosUp x) c-cosUp hb hd)
+      (low cosDown x d D (D * dev cosDown x) refl)
 
   least-cos : D * cosL x ≤ D * cosL (x + d) + d * sinL x + Q
   least-cos =
       hold D d (eval cosUp (x + d)) (eval cosDown (x + d)) (eval cosUp x) (eval cosDown x) (eval sinUp x) (eval sinDown x) (D * dev cosDown x) (eval last x) (Most * eval last B) Q
-      (cos-order hb) (cos-order hx) (sin-order hx) (slope-cosDown x) end (up cosDown x d Most B Q (Most * eval last B) D (D * dev cosDown x) refl c-cosDown hb hd) (low cosUp x d D (eval sinDown x) (slope-cosUp x))
+      (cos-order hb) (cos-order hx) (sin-order hx) (slope-cosDown x) end (up cosDown x d Most B Q (Most * eval last B) D (D * dev cosDown x) refl c-cosDown hb hd)
+      (low cosUp x d D (eval sinDown x) (slope-cosUp x))
 
   -- ---- of the series
   few : x ≤ D

@@ -1,22 +1,19 @@
--- An angle brought to within half a right angle: the rule's whole numbers against the exact ones. No f32 is so near to a
--- multiple of half a right angle that the cut of H could matter: a test computed for each k. Assumes nothing.
+-- The quarters that are taken off are the nearest: no f32 is so near to the middle between two that the roundings could matter, nor so
+-- near to a right angle that the rest's sign could. A test computed for each. Assumes nothing.
 use mathlib.Core.Path.{_≡_, refl, sym, ap, _∙_, subst}
 use mathlib.Core.Logic.{_⊎_, inl, inr}
 use mathlib.Core.List.{List, [], _∷_}
-use mathlib.Core.Bool.{Bool, true, false, not, _||_, cond, _&&_}
+use mathlib.Core.Bool.{Bool, true, false, not, _&&_}
 use Prim.Native.Nat.{ℕ, zero, suc, _+_, _-_, _*_, _/_, _%_, _^_, _≤_, _<_}
-use native.Mathlib.Nat.{div-add-mod', div-eq-of-lt-le, mod-lt, mul-lt-mul-of-pos-right, mul-le-mul-right, le-of-mul-le-mul-right, lt-of-mul-lt-mul-right, mul-assoc, lt-of-not-le}
+use native.Mathlib.Nat.{div-add-mod', mul-lt-mul-of-pos-right, mul-le-mul-right, le-of-mul-le-mul-right}
 use native.Mathlib.Omega.{arith}
-use lib.Dec.{T, leb, ltb, eqb, leb→le, nleb→lt, ltb→lt, eqb→eq, lit<}
-use borrow.Author.Tests.{le-ltb, lt-ltb}
-use Rattle.angle.specs.Meaning.{D, H, signed, mod4}
-use Rattle.angle.specs.Sine.{hUnits, halfH, turnOf, kOf, shortOf, restOf}
+use lib.Dec.{T, leb, leb→le, nleb→lt, lit<}
+use Rattle.angle.specs.Meaning.{D, H}
 use Rattle.angle.proofs.Every.{both-left, both-right, every, at}
-use Rattle.angle.proofs.Signs.{mod4-minus}
 use Rattle.angle.proofs.Placing.{Beside}
-use Rattle.angle.proofs.sine.Units.{step, D-is, Off, Counted, far, close}
+use Rattle.angle.proofs.sine.Units.{step}
 
--- H has a fraction of a unit, in 16384ths
+-- H is a whole number of 2 ^ -60ths
 unfoldable grain : ℕ
 grain = 2 ^ 89
 
@@ -29,277 +26,171 @@ unfolding step grain
 step-is = refl
 
 abbrev hGrains : ℕ
-hGrains = 16384 * hUnits + 6214
+hGrains = 0x1921_FB54_442D_1846
 
 H-is : H ≡ hGrains * grain
 unfolding H grain
 H-is = refl
 
--- what the rule finds at n, against the angle x, which is negative where s is true: y is what is left of j right angles
-pub record Found (s : Bool) (x n : ℕ) : Type 0 where
-  pub j : ℕ
-  pub y : ℕ
-  pub b : Bool
-  pub beside : Beside b x j y
-  pub half : 2 * y < H
-  pub quarter : mod4 (signed s j) ≡ kOf n % 4
-  pub side : (shortOf n ≡ cond b (not s) s) ⊎ (restOf n ≡ 0)
-  pub lo : restOf n * step ≤ y + 8 * step
-  pub hi : y ≤ restOf n * step + 8 * step
-  pub part : restOf n ≤ halfH
-
--- ---- where n is a multiple of 2 ^ 22, the rest is not within 8 units of half of H, nor of 0 but for k = 20
--- the remainder of 2 ^ 22 at k, o after the start of its turn, leaves room for w more
-clear : ℕ → ℕ → ℕ → Bool
-clear k o w = let v = (k * hUnits + 141718 + o) % 4194304 in leb 1 v && ltb (v + w) 4194304
-
-ends : ℕ → ℕ → Bool
-unfolding clear
-ends k i = clear k 0 8 && clear k (hUnits - 8) 8
-
-middle : ℕ → ℕ → Bool
-unfolding clear
-middle k i = eqb k 20 || clear k (halfH - 7) 14
+-- ---- twice an f32 from a half on is a multiple of 2 ^ 37 grains, and i + 1 right angles are 2 ^ 18 or more from each
+clear : ℕ → ℕ → Bool
+clear i z = let v = suc i * hGrains % 0x20_0000_0000 in leb 0x4_0000 v && leb v 0x1F_FFFC_0000
 
 zeros : ℕ → List ℕ
 zeros zero = []
 zeros (suc n) = 0 ∷ zeros n
 
-all-ends : T (every ends 0 (zeros 41))
-unfolding ends zeros
-all-ends = tt
+all-clear : T (every clear 0 (zeros 35))
+unfolding clear zeros
+all-clear = tt
 
-all-middle : T (every middle 0 (zeros 41))
-unfolding middle zeros
-all-middle = tt
+abbrev Apart : ℕ → ℕ → Type 0
+Apart c i = (c * 0x20_0000_0000 + 0x4_0000 ≤ suc i * hGrains) ⊎ (suc i * hGrains + 0x4_0000 ≤ c * 0x20_0000_0000)
 
--- between two multiples there is none
-between : (u w t : ℕ) → u * 4194304 + t ≡ w * 4194304 → 1 ≤ t → t < 4194304 → ⊥
-between u w t e a b = go (leb w u) (leb→le w u) (nleb→lt w u)
+gap : (c i : ℕ) → i < 35 → Apart c i
+unfolding clear zeros
+gap c i l =
+    let n = suc i * hGrains in
+    let v = n % 0x20_0000_0000 in
+    let t = at clear (zeros 35) all-clear i l in
+    go (n / 0x20_0000_0000) v n (div-add-mod' n 0x20_0000_0000) (leb→le 0x4_0000 v (both-left (leb 0x4_0000 v) (leb v 0x1F_FFFC_0000) t))
+    (leb→le v 0x1F_FFFC_0000 (both-right (leb 0x4_0000 v) (leb v 0x1F_FFFC_0000) t))
   where
-    go : (c : Bool) → (T c → w ≤ u) → (T (not c) → u < w) → ⊥
-    go true f g = let h = f tt in omega arith
-    go false f g = let h = g tt in omega arith
+    go : (u v n : ℕ) → u * 0x20_0000_0000 + v ≡ n → 0x4_0000 ≤ v → v ≤ 0x1F_FFFC_0000 → (c * 0x20_0000_0000 + 0x4_0000 ≤ n) ⊎ (n + 0x4_0000 ≤ c * 0x20_0000_0000)
+    go u v n e a b = side (leb c u) (leb→le c u) (nleb→lt c u)
+      where
+        side : (d : Bool) → (T d → c ≤ u) → (T (not d) → u < c) → (c * 0x20_0000_0000 + 0x4_0000 ≤ n) ⊎ (n + 0x4_0000 ≤ c * 0x20_0000_0000)
+        side true f g = let h = f tt in inl (omega arith)
+        side false f g = let h = g tt in inr (omega arith)
 
-module _ (n k q w : ℕ) (e : k * hUnits + q ≡ turnOf n) (ql : q < hUnits) (kl : k < 41) (m : n ≡ w * 4194304) where
-  missed : (o r i : ℕ) → T (clear k o r) → q ≡ o + i → i ≤ r → ⊥
-  unfolding clear
-  missed o r i t f l =
-      let x = k * hUnits + 141718 + o in
-      let a = leb→le 1 (x % 4194304) (both-left (leb 1 (x % 4194304)) (ltb (x % 4194304 + r) 4194304) t) in
-      let b = ltb→lt (x % 4194304 + r) 4194304 (both-right (leb 1 (x % 4194304)) (ltb (x % 4194304 + r) 4194304) t) in
-      go (x / 4194304) (x % 4194304) (div-add-mod' x 4194304) a b
-    where
-      go : (u v : ℕ) → u * 4194304 + v ≡ k * hUnits + 141718 + o → 1 ≤ v → v + r < 4194304 → ⊥
-      go u v d a b = between u (w + 3377668) (v + i) (omega arith) (omega arith) (omega arith)
+-- ---- y is what is left of x by j right angles, or by which they are more
+pub record Found (x j : ℕ) : Type 0 where
+  pub y : ℕ
+  pub b : Bool
+  pub beside : Beside b x j y
+  pub half : 2 * y < H
+  pub far : 8 * step ≤ y
 
-  ends-at : T (clear k 0 8) × T (clear k (hUnits - 8) 8)
-  unfolding ends zeros
-  ends-at = let t = at ends (zeros 41) all-ends k kl in (both-left (clear k 0 8) (clear k (hUnits - 8) 8) t, both-right (clear k 0 8) (clear k (hUnits - 8) 8) t)
+-- in grains: x is X of them
+module _ (X j Y : ℕ) (h : 2 * Y < hGrains) (f : 0x2_0000 ≤ Y) where
+  half-y : 2 * (Y * grain) < H
+  half-y = subst (λ (z : ℕ). 2 * (Y * grain) < z) (sym H-is) (omega (arith, mul-lt-mul-of-pos-right h grain-pos))
 
-  above-0 : 9 ≤ q
-  above-0 = lt-of-not-le (λ (g : q ≤ 8). missed 0 8 q (ends-at .0) (omega arith) g)
+  far-y : 8 * step ≤ Y * grain
+  far-y = subst (λ (z : ℕ). 8 * z ≤ Y * grain) (sym step-is) (omega (arith, mul-le-mul-right grain f))
 
-  below-h : q < hUnits - 8
-  below-h = lt-of-not-le (λ (g : hUnits - 8 ≤ q). missed (hUnits - 8) 8 (q - (hUnits - 8)) (ends-at .1) (omega arith) (omega arith))
-
-  apart : (k ≡ 20) ⊎ ((q < halfH - 7) ⊎ (halfH + 7 < q))
-  unfolding middle zeros
-  apart = go (eqb k 20) (eqb→eq k 20) (at middle (zeros 41) all-middle k kl)
-    where
-      side : (b : Bool) → (T b → halfH - 7 ≤ q) → (T (not b) → q < halfH - 7) → T (clear k (halfH - 7) 14) → (q < halfH - 7) ⊎ (halfH + 7 < q)
-      side true f g t = let h = f tt in inr (lt-of-not-le (λ (l : q ≤ halfH + 7). missed (halfH - 7) 14 (q - (halfH - 7)) t (omega arith) (omega arith)))
-      side false f g t = inl (g tt)
-
-      go : (b : Bool) → (T b → k ≡ 20) → T (b || clear k (halfH - 7) 14) → (k ≡ 20) ⊎ ((q < halfH - 7) ⊎ (halfH + 7 < q))
-      go true f t = inl (f tt)
-      go false f t = inr (side (leb (halfH - 7) q) (leb→le (halfH - 7) q) (nleb→lt (halfH - 7) q) t)
-
--- ---- what the rule says where the quotient is k and q is over
-module _ (n k q : ℕ) (e : k * hUnits + q ≡ turnOf n) (ql : q < hUnits) where
-  k-is : kOf n ≡ k
-  unfolding kOf
-  k-is = div-eq-of-lt-le hUnits (omega arith) (omega arith)
-
-  q-is : turnOf n % hUnits ≡ q
-  unfolding kOf
-  q-is = go (turnOf n % hUnits) (ap (λ (z : ℕ). z * hUnits) k-is) (div-add-mod' (turnOf n) hUnits)
-    where
-      go : (r : ℕ) → turnOf n / hUnits * hUnits ≡ k * hUnits → turnOf n / hUnits * hUnits + r ≡ turnOf n → r ≡ q
-      go r f d = omega arith
-
-  short-under : q < halfH → (shortOf n ≡ true) × (restOf n ≡ halfH - q)
-  unfolding shortOf restOf
-  short-under l =
-      let t : ltb (turnOf n % hUnits) halfH ≡ true = ap (λ (z : ℕ). ltb z halfH) q-is ∙ lt-ltb q halfH l in
-      (t, ap (λ (c : Bool). cond c (halfH - turnOf n % hUnits) (turnOf n % hUnits - halfH)) t ∙ ap (λ (z : ℕ). halfH - z) q-is)
-
-  short-over : halfH ≤ q → (shortOf n ≡ false) × (restOf n ≡ q - halfH)
-  unfolding shortOf restOf
-  short-over l =
-      let t : ltb (turnOf n % hUnits) halfH ≡ false = ap (λ (z : ℕ). ltb z halfH) q-is ∙ le-ltb q halfH l in
-      (t, ap (λ (c : Bool). cond c (halfH - turnOf n % hUnits) (turnOf n % hUnits - halfH)) t ∙ ap (λ (z : ℕ). z - halfH) q-is)
-
--- ---- y in grains
-past : (Y j c : ℕ) → Y + j * hGrains ≡ c * 16384 → Beside false (c * step) j (Y * grain)
-past Y j c f =
-    subst (λ (z : ℕ). Y * grain + j * z ≡ c * step) (sym H-is)
-    (subst (λ (z : ℕ). Y * grain + j * (hGrains * grain) ≡ c * z) (sym step-is) (omega (arith, ap (λ (z : ℕ). z * grain) f)))
-
-before : (Y j c : ℕ) → Y + c * 16384 ≡ j * hGrains → Beside true (c * step) j (Y * grain)
-before Y j c f =
-    subst (λ (z : ℕ). Y * grain + c * step ≡ j * z) (sym H-is)
-    (subst (λ (z : ℕ). Y * grain + c * z ≡ j * (hGrains * grain)) (sym step-is) (omega (arith, ap (λ (z : ℕ). z * grain) f)))
-
-less-half : (Y : ℕ) → 2 * Y < hGrains → 2 * (Y * grain) < H
-less-half Y h = subst (λ (z : ℕ). 2 * (Y * grain) < z) (sym H-is) (omega (arith, mul-lt-mul-of-pos-right h grain-pos))
-
-near-rest : (r Y : ℕ) → r * 16384 ≤ Y + 131072 → Y ≤ r * 16384 + 131072 → (r * step ≤ Y * grain + 8 * step) × (Y * grain ≤ r * step + 8 * step)
-near-rest r Y f g = (
-  subst (λ (z : ℕ). r * z ≤ Y * grain + 8 * z) (sym step-is) (omega (arith, mul-le-mul-right grain f)),
-  subst (λ (z : ℕ). Y * grain ≤ r * z + 8 * z) (sym step-is) (omega (arith, mul-le-mul-right grain g)),
-)
-
--- ---- the two cases
-module _ (s : Bool) (n k q j Y c : ℕ) (e : k * hUnits + q ≡ turnOf n) (ql : q < hUnits) (fourth : mod4 (signed s j) ≡ k % 4) (h : 2 * Y < hGrains) where
-  made : (b g : Bool) (r : ℕ) → Beside b (c * step) j (Y * grain) → shortOf n ≡ g → g ≡ cond b (not s) s → restOf n ≡ r → r ≤ halfH → r * 16384 ≤ Y + 131072 → Y ≤ r * 16384 + 131072 → Found s (c * step) n
-  made b g r w f f' i l u v =
-      let m = near-rest r Y u v in
-      record {
-        j = j;
-        y = Y * grain;
-        b = b;
-        beside = w;
-        half = less-half Y h;
-        quarter = fourth ∙ ap (λ (z : ℕ). z % 4) (sym (k-is n k q e ql));
-        side = inl (f ∙ f');
-        lo = subst (λ (z : ℕ). z * step ≤ Y * grain + 8 * step) (sym i) (m .0);
-        hi = subst (λ (z : ℕ). Y * grain ≤ z * step + 8 * step) (sym i) (m .1);
-        part = subst (λ (z : ℕ). z ≤ halfH) (sym i) l;
-      }
-
-step-pos : 0 < step
-unfolding step
-step-pos = lit< tt
-
--- the angle in units, and how many it can be
-few : (C : ℕ) → C * step ≤ 26 * D → C ≤ 26 * 0x4000_0000_0000
-few C l = le-of-mul-le-mul-right {k = step} (subst (λ (z : ℕ). C * step ≤ z) (ap (λ (z : ℕ). 26 * z) D-is ∙ sym (mul-assoc 26 0x4000_0000_0000 step)) l) step-pos
-
-module _ (c n : ℕ) (l : c * 4194304 * step ≤ 26 * D) where
-  abbrev C : ℕ
-  C = c * 4194304
-
-  abbrev Ends : ℕ → ℕ → Type 0
-  Ends k q = (9 ≤ q) × (q < hUnits - 8) × ((k ≡ 20) ⊎ ((q < halfH - 7) ⊎ (halfH + 7 < q)))
-
-  ends-of : (k q w : ℕ) → k * hUnits + q ≡ turnOf n → q < hUnits → k < 41 → n ≡ w * 4194304 → Ends k q
-  ends-of k q w e ql kl m = (above-0 n k q w e ql kl m, below-h n k q w e ql kl m, apart n k q w e ql kl m)
-
-  up-at : (k q j : ℕ) → k * hUnits + q ≡ turnOf n → q < hUnits → k ≡ 20 + j → j ≤ 20 → n ≡ 2 ^ 51 + C → Ends k q → Found false (C * step) n
-  unfolding mod4
-  up-at k q j e ql kj jl f (a, b, g) = go g
-    where
-      over : halfH + 6214 * j ≤ q * 16384 → halfH ≤ q → 6214 * j ≤ 16384 * (q - halfH) → Found false (C * step) n
-      over o h t =
-          let r = short-over n k q e ql h in
-          let Y = 16384 * (q - halfH) - 6214 * j in
-          made false n k q j Y C e ql (omega arith) (omega arith) false false (q - halfH) (past Y j C (omega arith)) (r .0) refl (r .1) (omega arith) (omega arith) (omega arith)
-
-      under : q < halfH → Found false (C * step) n
-      under h =
-          let r = short-under n k q e ql h in
-          let Y = 16384 * (halfH - q) + 6214 * j in
-          made false n k q j Y C e ql (omega arith) (omega arith) true true (halfH - q) (before Y j C (omega arith)) (r .0) refl (r .1) (omega arith) (omega arith) (omega arith)
-
-      go : (k ≡ 20) ⊎ ((q < halfH - 7) ⊎ (halfH + 7 < q)) → Found false (C * step) n
-      go (inl h) = over (omega arith) (omega arith) (omega arith)
-      go (inr (inl h)) = under (omega arith)
-      go (inr (inr h)) = over (omega arith) (omega arith) (omega arith)
-
-  down-at : (k q j : ℕ) → k * hUnits + q ≡ turnOf n → q < hUnits → k + j ≡ 20 → n + C ≡ 2 ^ 51 → Ends k q → Found true (C * step) n
-  down-at k q j e ql kj f (a, b, g) = go g
-    where
-      fourth : mod4 (signed true j) ≡ k % 4
-      fourth = mod4-minus j ∙ omega arith
-
-      over : halfH ≤ q → Found true (C * step) n
-      over h =
-          let r = short-over n k q e ql h in
-          let Y = 16384 * (q - halfH) + 6214 * j in
-          made true n k q j Y C e ql fourth (omega arith) true false (q - halfH) (before Y j C (omega arith)) (r .0) refl (r .1) (omega arith) (omega arith) (omega arith)
-
-      under : q < halfH → 6214 * j ≤ 16384 * (halfH - q) → Found true (C * step) n
-      under h t =
-          let r = short-under n k q e ql h in
-          let Y = 16384 * (halfH - q) - 6214 * j in
-          made true n k q j Y C e ql fourth (omega arith) false true (halfH - q) (past Y j C (omega arith)) (r .0) refl (r .1) (omega arith) (omega arith) (omega arith)
-
-      zero-turn : k ≡ 20 → (d : Bool) → (T d → halfH ≤ q) → (T (not d) → q < halfH) → Found true (C * step) n
-      zero-turn h true f g = over (f tt)
-      zero-turn h false f g = let i : q < halfH = g tt in under i (omega arith)
-
-      go : (k ≡ 20) ⊎ ((q < halfH - 7) ⊎ (halfH + 7 < q)) → Found true (C * step) n
-      go (inl h) = zero-turn h (leb halfH q) (leb→le halfH q) (nleb→lt halfH q)
-      go (inr (inl h)) = under (omega arith) (omega arith)
-      go (inr (inr h)) = over (omega arith)
-
-  pub far-found : (s : Bool) → Off s n C → Found s (C * step) n
-  far-found s f =
-      let k = turnOf n / hUnits in
-      let q = turnOf n % hUnits in
-      go s k q (div-add-mod' (turnOf n) hUnits) (mod-lt (turnOf n) (lit< tt)) (few C l) f
-    where
-      go : (s : Bool) (k q : ℕ) → k * hUnits + q ≡ turnOf n → q < hUnits → C ≤ 26 * 0x4000_0000_0000 → Off s n C → Found s (C * step) n
-      go false k q e ql m f = let o = ends-of k q (0x2000_0000 + c) e ql (omega arith) (omega arith) in up-at k q (k - 20) e ql (omega arith) (omega arith) f o
-      go true k q e ql m f = let o = ends-of k q (0x2000_0000 - c) e ql (omega arith) (omega arith) in down-at k q (20 - k) e ql (omega arith) f o
-
--- below a half no right angle is taken off
-module _ (s : Bool) (x n v : ℕ) (low : x < 2 ^ 45 * step) (lo : v * step ≤ x + step) (hi : x ≤ v * step + step) where
-  v-few : v ≤ 2 ^ 45 + 1
-  v-few = go (lt-of-mul-lt-mul-right step (omega (arith, step-pos)))
-    where
-      go : v < 2 ^ 45 + 2 → v ≤ 2 ^ 45 + 1
-      go h = omega arith
-
-  half-x : 2 * x < H
-  half-x = subst (λ (z : ℕ). 2 * x < z) (sym H-is) (go step-is low)
-    where
-      go : step ≡ 16384 * grain → x < 2 ^ 45 * step → 2 * x < hGrains * grain
-      go e h = omega (arith, grain-pos)
-
-  little : (q : ℕ) → 20 * hUnits + q ≡ turnOf n → q < hUnits → mod4 (signed s 0) ≡ 0 → restOf n ≡ v → v ≤ halfH → (shortOf n ≡ s) ⊎ (restOf n ≡ 0) → Found s x n
-  little q e ql z i l t = record {
-    j = 0;
-    y = x;
+  past : Y + j * hGrains ≡ X → Found (X * grain) j
+  past e = record {
+    y = Y * grain;
     b = false;
-    beside = omega arith;
-    half = half-x;
-    quarter = z ∙ ap (λ (k : ℕ). k % 4) (sym (k-is n 20 q e ql));
-    side = t;
-    lo = subst (λ (r : ℕ). r * step ≤ x + 8 * step) (sym i) (omega arith);
-    hi = subst (λ (r : ℕ). x ≤ r * step + 8 * step) (sym i) (omega arith);
-    part = subst (λ (r : ℕ). r ≤ halfH) (sym i) l;
+    beside = subst (λ (z : ℕ). Y * grain + j * z ≡ X * grain) (sym H-is) (omega (arith, ap (λ (z : ℕ). z * grain) e));
+    half = half-y;
+    far = far-y;
   }
 
-close-found : (s : Bool) (x n v : ℕ) → x < 2 ^ 45 * step → v * step ≤ x + step → x ≤ v * step + step → Off s n v → Found s x n
-unfolding mod4
-close-found false x n v low lo hi f =
-    let m = v-few false x n v low lo hi in
-    let e : 20 * hUnits + (halfH + v) ≡ turnOf n = omega arith in
-    let r = short-over n 20 (halfH + v) e (omega arith) (omega arith) in
-    little false x n v low lo hi (halfH + v) e (omega arith) refl (r .1 ∙ omega arith) (omega arith) (inl (r .0))
-close-found true x n zero low lo hi f =
-    let e : 20 * hUnits + halfH ≡ turnOf n = omega arith in
-    let r = short-over n 20 halfH e (omega arith) (omega arith) in
-    little true x n zero low lo hi halfH e (omega arith) refl (r .1 ∙ omega arith) (omega arith) (inr (r .1 ∙ omega arith))
-close-found true x n (suc w) low lo hi f =
-    let v = suc w in
-    let m = v-few true x n v low lo hi in
-    let e : 20 * hUnits + (halfH - v) ≡ turnOf n = omega arith in
-    let r = short-under n 20 (halfH - v) e (omega arith) (omega arith) in
-    little true x n v low lo hi (halfH - v) e (omega arith) refl (r .1 ∙ omega arith) (omega arith) (inl (r .0))
+  before : Y + X ≡ j * hGrains → Found (X * grain) j
+  before e = record {
+    y = Y * grain;
+    b = true;
+    beside = subst (λ (z : ℕ). Y * grain + X * grain ≡ j * z) (sym H-is) (omega (arith, ap (λ (z : ℕ). z * grain) e));
+    half = half-y;
+    far = far-y;
+  }
 
-pub found : (s : Bool) (x n : ℕ) → Counted s x n → Found s x n
-found s x n (far c e l f) = subst (λ (z : ℕ). Found s z n) (sym e) (far-found c n (subst (λ (z : ℕ). z ≤ 26 * D) e l) s f)
-found s x n (close v low lo hi f) = close-found s x n v low lo hi f
+abbrev Few : ℕ → ℕ → Type 0
+Few X j = (2 * (j * hGrains) ≤ 2 * X + hGrains + 0x8000) × (2 * X ≤ 2 * (j * hGrains) + hGrains + 0x8000)
+
+-- from a half on
+on-grid : (c j : ℕ) → j ≤ 17 → 0x2_0000 ≤ c * 0x10_0000_0000 → Few (c * 0x10_0000_0000) j → Found (c * 0x10_0000_0000 * grain) j
+on-grid c zero l o (a, b) = go (gap c 0 (lit< tt))
+  where
+    go : Apart c 0 → Found (c * 0x10_0000_0000 * grain) 0
+    go (inl h) = past (c * 0x10_0000_0000) 0 (c * 0x10_0000_0000) (omega arith) o (omega arith)
+    go (inr h) = absurd (no c b h)
+      where
+        no : (c : ℕ) → 2 * (c * 0x10_0000_0000) ≤ 2 * (0 * hGrains) + hGrains + 0x8000 → 1 * hGrains + 0x4_0000 ≤ c * 0x20_0000_0000 → ⊥
+        no c b h = omega arith
+on-grid c (suc i) l o (a, b) = go (gap c (2 * i) (omega arith)) (gap c (2 * i + 1) (omega arith)) (gap c (2 * i + 2) (omega arith))
+  where
+    go : Apart c (2 * i) → Apart c (2 * i + 1) → Apart c (2 * i + 2) → Found (c * 0x10_0000_0000 * grain) (suc i)
+    go (inl h) m t = absurd (no h a)
+      where
+        no : c * 0x20_0000_0000 + 0x4_0000 ≤ suc (2 * i) * hGrains → 2 * (suc i * hGrains) ≤ 2 * (c * 0x10_0000_0000) + hGrains + 0x8000 → ⊥
+        no h a = omega arith
+    go (inr h) m (inr t) = absurd (no t b)
+      where
+        no : suc (2 * i + 2) * hGrains + 0x4_0000 ≤ c * 0x20_0000_0000 → 2 * (c * 0x10_0000_0000) ≤ 2 * (suc i * hGrains) + hGrains + 0x8000 → ⊥
+        no t b = omega arith
+    go (inr h) (inl m) (inl t) = before (c * 0x10_0000_0000) (suc i) (suc i * hGrains - c * 0x10_0000_0000) (omega arith) (omega arith) (omega arith)
+    go (inr h) (inr m) (inl t) = past (c * 0x10_0000_0000) (suc i) (c * 0x10_0000_0000 - suc i * hGrains) (omega arith) (omega arith) (omega arith)
+
+-- ---- the angle x, in D-ths
+abbrev Around : ℕ → ℕ → Type 0
+Around x j = (2 * (j * H) ≤ 2 * x + H + 2 * step) × (2 * x ≤ 2 * (j * H) + H + 2 * step)
+
+around-grains : (x j : ℕ) → Around x j → (2 * (j * (hGrains * grain)) ≤ 2 * x + hGrains * grain + 2 * (16384 * grain)) × (2 * x ≤ 2 * (j * (hGrains * grain)) + hGrains * grain + 2 * (16384 * grain))
+around-grains x j a =
+    subst (λ (z : ℕ). (2 * (j * (hGrains * grain)) ≤ 2 * x + hGrains * grain + 2 * z) × (2 * x ≤ 2 * (j * (hGrains * grain)) + hGrains * grain + 2 * z)) step-is
+    (subst (λ (z : ℕ). (2 * (j * z) ≤ 2 * x + z + 2 * step) × (2 * x ≤ 2 * (j * z) + z + 2 * step)) H-is a)
+
+D-grains : D ≡ 0x1000_0000_0000_0000 * grain
+unfolding D grain
+D-grains = refl
+
+-- below a half no quarter is taken off
+below-half : (x g : ℕ) → x < 2 ^ 45 * (16384 * g) → 2 * x < hGrains * g
+below-half x g h = omega arith
+
+some-way : (x g : ℕ) → 0x1000_0000_0000_0000 * g ≤ x * 4096 → 8 * (16384 * g) ≤ x
+some-way x g h = omega arith
+
+no-quarter : (x i g : ℕ) → 2 * (suc i * (hGrains * g)) ≤ 2 * x + hGrains * g + 2 * (16384 * g) → x < 2 ^ 45 * (16384 * g) → 0 < g → ⊥
+no-quarter x i g k h p = omega arith
+
+module _ (x j : ℕ) (l : x ≤ 26 * D) (big : D ≤ x * 4096) (a : Around x j) where
+  abbrev g : ℕ
+  g = grain
+
+  few-j : j ≤ 17
+  few-j = tight (lt-of (around-grains x j a .0) (subst (λ (z : ℕ). x ≤ 26 * z) D-grains l))
+    where
+      lt-of : 2 * (j * (hGrains * grain)) ≤ 2 * x + hGrains * grain + 2 * (16384 * grain) → x ≤ 26 * (0x1000_0000_0000_0000 * grain) → 2 * (j * hGrains) ≤ 52 * 0x1000_0000_0000_0000 + hGrains + 32768
+      lt-of h k = le-of-mul-le-mul-right {k = grain} (omega arith) grain-pos
+
+      tight : 2 * (j * hGrains) ≤ 52 * 0x1000_0000_0000_0000 + hGrains + 32768 → j ≤ 17
+      tight h = omega arith
+
+  low : x < 2 ^ 45 * step → Found x j
+  low h = go j (around-grains x j a .0) (subst (λ (z : ℕ). x < 2 ^ 45 * z) step-is h)
+    where
+      go : (j : ℕ) → 2 * (j * (hGrains * grain)) ≤ 2 * x + hGrains * grain + 2 * (16384 * grain) → x < 2 ^ 45 * (16384 * grain) → Found x j
+      go zero k h = record {
+        y = x;
+        b = false;
+        beside = omega arith;
+        half = subst (λ (z : ℕ). 2 * x < z) (sym H-is) (below-half x grain h);
+        far = subst (λ (z : ℕ). 8 * z ≤ x) (sym step-is) (some-way x grain (subst (λ (z : ℕ). z ≤ x * 4096) D-grains big));
+      }
+      go (suc i) k h = absurd (no-quarter x i grain k h grain-pos)
+
+  high : (c : ℕ) → x ≡ c * 2 ^ 22 * step → Found x j
+  high c e =
+      subst (λ (z : ℕ). Found z j) (sym whole)
+      (on-grid c j few-j (le-of-mul-le-mul-right {k = grain} (enough grain (subst (λ (z : ℕ). z ≤ x * 4096) D-grains big) whole) grain-pos)
+      (le-of-mul-le-mul-right {k = grain} (up' grain (around-grains x j a .0) whole) grain-pos, le-of-mul-le-mul-right {k = grain} (down' grain (around-grains x j a .1) whole) grain-pos))
+    where
+      whole : x ≡ c * 0x10_0000_0000 * grain
+      whole = e ∙ ap (λ (z : ℕ). c * 2 ^ 22 * z) step-is ∙ omega arith
+
+      enough : (g : ℕ) → 0x1000_0000_0000_0000 * g ≤ x * 4096 → x ≡ c * 0x10_0000_0000 * g → 0x2_0000 * g ≤ c * 0x10_0000_0000 * g
+      enough g h e = omega arith
+
+      up' : (g : ℕ) → 2 * (j * (hGrains * g)) ≤ 2 * x + hGrains * g + 2 * (16384 * g) → x ≡ c * 0x10_0000_0000 * g → 2 * (j * hGrains) * g ≤ (2 * (c * 0x10_0000_0000) + hGrains + 0x8000) * g
+      up' g h e = omega arith
+
+      down' : (g : ℕ) → 2 * x ≤ 2 * (j * (hGrains * g)) + hGrains * g + 2 * (16384 * g) → x ≡ c * 0x10_0000_0000 * g → 2 * (c * 0x10_0000_0000) * g ≤ (2 * (j * hGrains) + hGrains + 0x8000) * g
+      down' g h e = omega arith
+
+  pub found : ((c : ℕ) × (x ≡ c * 2 ^ 22 * step)) ⊎ (x < 2 ^ 45 * step) → Found x j
+  found (inl (c, e)) = high c e
+  found (inr h) = low h

@@ -1,91 +1,62 @@
--- The rule's sine and cosine of an angle up to 26 lie within 2 ^ -20 of what is meant: the series is near the terms, the
--- nearest f32 is near the series, and both are placed alike. Assumes nothing.
+-- The rule's sine and cosine of an angle up to 26 lie within 2 ^ -20 of what is meant: the polynomials are near the terms, the
+-- f32 is near the polynomials, and both are placed alike. Assumes nothing.
 use mathlib.Core.Path.{_≡_, refl, sym, ap, _∙_, subst}
-use mathlib.Core.Logic.{_⊎_, inl, inr}
-use mathlib.Core.Bool.{Bool, true, false, not, cond}
+use mathlib.Core.Bool.{Bool, true, false, not, cond, _&&_}
 use Prim.Native.Nat.{ℕ, zero, suc, _+_, _-_, _*_, _/_, _%_, _^_, _≤_, _<_}
-use native.Mathlib.Nat.{lt-of-le-of-lt, mul-assoc, mul-le-mul-left, mul-le-mul-right}
+use native.Mathlib.Nat.{lt-of-mul-lt-mul-right, le-trans, mul-comm, mul-le-mul, mul-le-mul-left, mul-le-mul-right, mul-pos, le-of-mul-le-mul-right}
 use native.Mathlib.Omega.{arith}
-use lib.Dec.{T, lit<}
+use lib.Dec.{T, ltb, lit≤, lit<}
 use lib.IntN.{ℤ, pos, negsuc, negℤ, natAbs, _-ℤ_, _*ℤ_, negℤ-negℤ, negℤ-+ℤ}
-use lib.Ieee.{Float, nan, inf, fin, binary32, up, down, neg, fits, round, size}
-use lib.Ieee.Scale.{grid, finite}
-use Rattle.number.specs.Size.{signOf}
-use Rattle.angle.specs.Meaning.{D, fact, whole, signed, parts, placed, sine, cosine, UpTo26, Close}
-use Rattle.angle.specs.Sine.{unitsOf, kOf, shortOf, restOf, squareOf, sineUnits, cosineUnits, timesOf, lessOf, sineFrom, asF32, sineAt, cosineAt, sineOf, cosineOf}
+use lib.Ieee.{Float, nan, inf, fin, binary32, binary64, up, down, neg, lt, fits, mul, sub, ofBits, toBits}
+use lib.Ieee.Fits.{down-pos}
+use lib.Ieee.Scale.{finite}
+use borrow.Author.Tests.{lt-ltb, ltb-true, ltb-false}
+use Rattle.number.proofs.Powers.{shallow}
+use Rattle.angle.specs.Meaning.{D, H, whole, signed, parts, mod4, placed, sine, cosine, UpTo26, Close}
+use Rattle.angle.specs.Sine.{many, sizeOf, countedOf, restOf, sizedOf, tinyOf, sineFrom, cosineFrom, narrowOf, sineAt, cosineAt, sineOfSize, cosineOfSize, sineOf, cosineOf}
 use Rattle.angle.proofs.Signs as Signs
-use Rattle.number.proofs.Powers.{like}
-use Rattle.angle.proofs.Signs.{opposite, product, apart}
-use Rattle.angle.proofs.Terms.{sinAt, cosAt}
-use Rattle.angle.proofs.Placing.{small, sine-is, cosine-is}
-use Rattle.angle.proofs.sine.Units.{Counted, counted, size-is, inside}
+use Rattle.angle.proofs.Signs.{opposite, product, apart, mod4-minus}
+use Rattle.angle.proofs.Terms.{one, sum, one-next, under, sinAt, cosAt}
+use Rattle.angle.proofs.Placing.{Beside, H-pos, sine-is, cosine-is}
+use Rattle.angle.proofs.Rounded.{Is, is}
+use Rattle.angle.proofs.sine.Units.{step, size-is, inside, which}
+use Rattle.angle.proofs.sine.Turns.{Turned, turned-of}
 use Rattle.angle.proofs.sine.Rest.{Found, found}
-use Rattle.angle.proofs.sine.Products.{Near}
-use Rattle.angle.proofs.sine.Series.{sin-near, cos-near, sin-le, cos-le}
-use Rattle.number.proofs.Negated.{neg-round}
-use Rattle.angle.proofs.Rounded.{Is, half, near, rounded}
+use Rattle.angle.proofs.sine.Doubles.{Near, E, E-pos, tiny, Val}
+use Rattle.angle.proofs.sine.Powers.{D-pos, Q-pos, first, none, yD, cut}
+use Rattle.angle.proofs.sine.Coefficients.{lift, E-lift}
+use Rattle.angle.proofs.sine.Poly.{Sined, sined, Cosined, cosined}
+use Rattle.angle.proofs.sine.Narrowed.{Narrowed, narrowed, fine, E-fine}
+use Rattle.angle.proofs.sine.Left.{whole-parts, val-of, sign-of, size-of, Rest, rest-of, Aside}
 
--- ---- an answer of n / 2 ^ 48, rounded
--- a 2 ^ -48th, in D-ths
-unfoldable k : ℕ
-k = 2 ^ 101
+-- ---- an answer that is near F is close to it
+close-at : (y : Float) (g F : ℕ) → Is y false g → g * whole * 2 ^ 20 ≤ F * D * 2 ^ 20 + D * whole → F * D * 2 ^ 20 ≤ g * whole * 2 ^ 20 + D * whole → Close y (pos F)
+close-at y g F i a b = record {
+  number = i .number;
+  near = subst (λ (z : ℤ). natAbs (z *ℤ pos whole -ℤ pos F *ℤ pos D) * 2 ^ 20 ≤ D * whole) (sym (i .parts-are)) (apart false (g * whole) (F * D) (2 ^ 20) (D * whole) a b);
+}
 
-D-is : D ≡ 0x1_0000_0000_0000 * k
-unfolding D k
-D-is = refl
+lift-pos : 0 < lift
+unfolding lift
+lift-pos = lit< tt
 
-abbrev g : ℕ → ℕ
-g n = grid binary32 n (2 ^ 48)
-
-half-is : half ≡ 0x400_0000 * k
-unfolding half k
-half-is = refl
-
-module _ (n : ℕ) (h : n ≤ 0x1_0000_0000_0000) where
-  in-parts : n * 2 ^ 149 ≡ n * k * 2 ^ 48
-  unfolding k
-  in-parts = sym (mul-assoc n k (2 ^ 48))
-
-  below : n * k < 2 ^ 151
-  unfolding k
-  below = lt-of-le-of-lt (mul-le-mul-right k h) (lit< tt)
-
-  it : (s : Bool) → Is (round binary32 s n (2 ^ 48)) s (g n)
-  it s = rounded n (2 ^ 48) (n * k) (lit< tt) in-parts below s
-
-  rounds : (g n ≤ n * k + 0x200_0000 * k) × (n * k ≤ g n + 0x200_0000 * k)
-  rounds = let w = near n (2 ^ 48) (n * k) (lit< tt) in-parts below in (go (g n) (n * k) half half-is (w .0), go (n * k) (g n) half half-is (w .1))
-    where
-      go : (a b c : ℕ) → c ≡ 0x400_0000 * k → a * 2 ≤ b * 2 + c → a ≤ b + 0x200_0000 * k
-      go a b c e w = omega arith
-
--- an answer that is near F / 2 ^ 48 is close to F
-pub close : (s : Bool) (n F : ℕ) → n ≤ 0x1_0000_0000_0000 → Near (n * whole) (F * 2 ^ 48) (0xb0_0000 * whole) → Close (asF32 s n) (signed s F)
-unfolding asF32
-close s n F h e =
-    let i = it n h s in
-    let r = rounds n h in
-    record {
-      number = i .number;
-      near = subst (λ (z : ℤ). natAbs z * 2 ^ 20 ≤ D * whole) (sym (same i)) (apart s (g n * whole) (F * D) (2 ^ 20) (D * whole) (one whole D D-is (r .0) (e .hi)) (two whole D D-is (r .1) (e .lo)));
-    }
+close : (y : Float) (p F c : ℕ) → c ≤ 661 → Narrowed y p → Near (p * whole * 1000000000) (F * E * 1000000000) (c * (E * whole)) → Close y (pos F)
+close y p F c k m n =
+    let g = m .g in
+    close-at y g F (is y false g (m .is))
+    (last (g * whole) (F * D) (D * whole) (le-of-mul-le-mul-right {k = lift} (up' g whole F fine lift E (n .hi) (m .near .hi) E-fine E-lift (mul-le-mul-right (E * whole) k)) lift-pos))
+    (last (F * D) (g * whole) (D * whole) (le-of-mul-le-mul-right {k = lift} (down' g whole F fine lift E (n .lo) (m .near .lo) E-fine E-lift (mul-le-mul-right (E * whole) k)) lift-pos))
   where
-    same : Is (round binary32 s n (2 ^ 48)) s (g n) → parts (round binary32 s n (2 ^ 48)) *ℤ pos whole -ℤ signed s F *ℤ pos D ≡ signed s (g n * whole) -ℤ signed s (F * D)
-    same i =
-        ap (λ (z : ℤ). z *ℤ pos whole -ℤ signed s F *ℤ pos D) (i .parts-are)
-        ∙ ap (λ (z : ℤ). z -ℤ signed s F *ℤ pos D) (product s false (g n) whole ∙ ap (λ (b : Bool). signed b (g n * whole)) (like s))
-        ∙ ap (λ (z : ℤ). signed s (g n * whole) -ℤ z) (product s false F D ∙ ap (λ (b : Bool). signed b (F * D)) (like s))
+    last : (a b w : ℕ) → a * 1000000000 ≤ b * 1000000000 + 781 * w → a * 2 ^ 20 ≤ b * 2 ^ 20 + w
+    last a b w h = omega arith
 
-    one : (W d : ℕ) → d ≡ 0x1_0000_0000_0000 * k → g n ≤ n * k + 0x200_0000 * k → n * W ≤ F * 2 ^ 48 + 0xb0_0000 * W → g n * W * 2 ^ 20 ≤ F * d * 2 ^ 20 + d * W
-    one W d e a b = omega (arith, ap (λ (z : ℕ). F * z) e, ap (λ (z : ℕ). z * W) e, mul-le-mul-right W a, mul-le-mul-left k b)
+    up' : (g w F f l e : ℕ) → p * w * 1000000000 ≤ F * e * 1000000000 + c * (e * w) → g * l ≤ p + f → e ≡ 0x80_0000 * f → e ≡ D * l → c * (e * w) ≤ 661 * (e * w)
+        → g * w * 1000000000 * l ≤ (F * D * 1000000000 + 781 * (D * w)) * l
+    up' g w F f l e a b h i k = omega (arith, mul-le-mul-right w b, ap (λ (z : ℕ). z * w) h, ap (λ (z : ℕ). z * w) i, ap (λ (z : ℕ). F * z) i)
 
-    two : (W d : ℕ) → d ≡ 0x1_0000_0000_0000 * k → n * k ≤ g n + 0x200_0000 * k → F * 2 ^ 48 ≤ n * W + 0xb0_0000 * W → F * d * 2 ^ 20 ≤ g n * W * 2 ^ 20 + d * W
-    two W d e a b = omega (arith, ap (λ (z : ℕ). F * z) e, ap (λ (z : ℕ). z * W) e, mul-le-mul-right W a, mul-le-mul-left k b)
-
--- ---- the other sign
-pub neg-as-f32 : (s : Bool) (n : ℕ) → neg (asF32 s n) ≡ asF32 (not s) n
-unfolding asF32
-neg-as-f32 s n = neg-round s n (2 ^ 48)
+    down' : (g w F f l e : ℕ) → F * e * 1000000000 ≤ p * w * 1000000000 + c * (e * w) → p ≤ g * l + f → e ≡ 0x80_0000 * f → e ≡ D * l → c * (e * w) ≤ 661 * (e * w)
+        → F * D * 1000000000 * l ≤ (g * w * 1000000000 + 781 * (D * w)) * l
+    down' g w F f l e a b h i k = omega (arith, mul-le-mul-right w b, ap (λ (z : ℕ). z * w) h, ap (λ (z : ℕ). z * w) i, ap (λ (z : ℕ). F * z) i)
 
 -- ---- by quarters
 times-minus : (a : ℤ) (w : ℕ) → negℤ a *ℤ pos w ≡ negℤ (a *ℤ pos w)
@@ -130,99 +101,384 @@ by-quarter (suc zero) a b = b
 by-quarter (suc (suc zero)) a b = turned a
 by-quarter (suc (suc (suc r))) a b = turned b
 
--- a zero of either sign is as close
-zero-is : (g : Bool) → sineAt g 0 ≡ fin g 0 (pos 0)
-unfolding sineAt asF32 sineFrom timesOf lessOf fact round
-zero-is true = refl
-zero-is false = refl
-
-zero-parts : (g : Bool) → parts (fin g 0 (pos 0)) ≡ pos 0
-unfolding parts D
-zero-parts true = refl
-zero-parts false = refl
-
-zero-close : (g h : Bool) (f : ℤ) → Close (sineAt g 0) f → Close (sineAt h 0) f
-zero-close g h f c = subst (λ (y : Float). Close y f) (sym (zero-is h)) (go (subst (λ (y : Float). Close y f) (zero-is g) c))
+-- ---- the angle: the test by the size
+tiny-at : (s : Bool) (m : ℕ) (e : ℤ) → tinyOf (fin s m e) ≡ ltb (m * up e * 4096) (1 * 1 * down e)
+unfolding tinyOf lt neg ofBits
+tiny-at false m e =
+    ap (λ (b : Bool). ltb (m * up e * 4096) (1 * 1 * down e) && b) (lt-ltb 0 (1 * 1 * down e + m * up e * 4096) (more (m * up e) (down e) (down-pos e))) ∙ both (ltb (m * up e * 4096) (1 * 1 * down e))
   where
-    go : Close (fin g 0 (pos 0)) f → Close (fin h 0 (pos 0)) f
-    go c = record { number = tt; near = subst (λ (z : ℤ). natAbs (z *ℤ pos whole -ℤ f *ℤ pos D) * 2 ^ 20 ≤ D * whole) (zero-parts g ∙ sym (zero-parts h)) (c .near) }
+    more : (a d : ℕ) → 0 < d → 0 < 1 * 1 * d + a * 4096
+    more a d h = omega arith
 
--- ---- the angle: its sign and its count
-sign-is : (t : Float) → parts t ≡ signed (signOf t) (natAbs (parts t))
-unfolding signOf parts
-sign-is nan = refl
-sign-is (inf true) = refl
-sign-is (inf false) = refl
-sign-is (fin s m e) = ap (signed s) (sym (Signs.size s (m * up e * D / down e)))
+    both : (b : Bool) → (b && true) ≡ b
+    both true = refl
+    both false = refl
+tiny-at true m e = ap (λ (b : Bool). b && ltb (m * up e * 4096) (1 * 1 * down e)) (lt-ltb 0 (m * up e * 4096 + 1 * 1 * down e) (more (m * up e) (down e) (down-pos e)))
+  where
+    more : (a d : ℕ) → 0 < d → 0 < a * 4096 + 1 * 1 * d
+    more a d h = omega arith
 
-count : (t : Float) → T (fits binary32 t) → UpTo26 t → Counted (signOf t) (natAbs (parts t)) (unitsOf t)
-unfolding signOf
-count nan f u = absurd (u .number)
-count (inf s) f u = absurd (u .number)
-count (fin s m e) f u =
-    let i = inside s m e f (subst (λ (x : ℕ). x ≤ 26 * D) (size-is s m e) (u .size)) in
-    subst (λ (n : ℕ). Counted s (natAbs (parts (fin s m e))) n) (sym (i .1)) (counted s m e f (i .0))
+-- x is the angle's size in D-ths
+abbrev xOf : ℕ → ℤ → ℕ
+xOf m e = m * up e * D / down e
 
--- ---- the two theorems
-module _ (t : Float) (f : T (fits binary32 t)) (u : UpTo26 t) where
-  x : ℕ
-  x = natAbs (parts t)
+exactly : (s : Bool) (m : ℕ) (e : ℤ) → T (fits binary32 (fin s m e)) → xOf m e * down e ≡ m * up e * D
+unfolding D
+exactly s m e f = whole-parts m e (shallow binary32 s m e f)
 
-  n : ℕ
-  n = unitsOf t
+tiny-size : (s : Bool) (m : ℕ) (e : ℤ) → T (fits binary32 (fin s m e)) → tinyOf (fin s m e) ≡ true → xOf m e * 4096 ≤ D
+tiny-size s m e f t = le-of-mul-le-mul-right {k = down e} (go (xOf m e) (m * up e) (down e) (exactly s m e f) (ltb-true (m * up e * 4096) (1 * 1 * down e) (sym (tiny-at s m e) ∙ t))) (down-pos e)
+  where
+    go : (x a d : ℕ) → x * d ≡ a * D → a * 4096 < 1 * 1 * d → x * 4096 * d ≤ D * d
+    go x a d i h = omega (arith, mul-le-mul-right D h)
 
-  s : Bool
-  s = signOf t
+large-size : (s : Bool) (m : ℕ) (e : ℤ) → T (fits binary32 (fin s m e)) → tinyOf (fin s m e) ≡ false → D ≤ xOf m e * 4096
+large-size s m e f t = le-of-mul-le-mul-right {k = down e} (go (xOf m e) (m * up e) (down e) (exactly s m e f) (ltb-false (m * up e * 4096) (1 * 1 * down e) (sym (tiny-at s m e) ∙ t))) (down-pos e)
+  where
+    go : (x a d : ℕ) → x * d ≡ a * D → 1 * 1 * d ≤ a * 4096 → D * d ≤ x * 4096 * d
+    go x a d i h = omega (arith, mul-le-mul-right D h)
 
-  at : Found s x n
-  unfolding x n s
-  at = found (signOf t) (natAbs (parts t)) (unitsOf t) (count t f u)
+-- ---- a tiny angle
+D-H : 3 * D ≤ 2 * H
+unfolding D H
+D-H = lit≤ tt
+
+half-few : D < H
+unfolding D H
+half-few = lit< tt
+
+module _ (x : ℕ) (l : x * 4096 ≤ D) where
+  tiny-half : 2 * x < H
+  tiny-half = omega (arith, half-few)
+
+  xD : x ≤ D
+  xD = omega (arith, l)
+
+  squares : x * x * 16777216 ≤ D * D
+  squares = go (mul-le-mul l l)
+    where
+      go : x * 4096 * (x * 4096) ≤ D * D → x * x * 16777216 ≤ D * D
+      go h = omega (arith, h)
+
+  first-few : one 1 x ≤ whole
+  first-few = le-of-mul-le-mul-right {k = D} (subst (λ (z : ℕ). z ≤ whole * D) (sym (first x)) (subst (λ (z : ℕ). x * whole ≤ z) (mul-comm D whole) (mul-le-mul-right whole xD))) D-pos
+
+  next-few : (T T' d : ℕ) → T ≤ whole → 0 < d → T' * (d * (D * D)) ≡ T * (x * x) → T' * 16777216 ≤ whole
+  next-few T T' d h o e = le-of-mul-le-mul-right {k = D * D} (go (D * D) (x * x) whole e h squares) Q-pos
+    where
+      go : (q y w : ℕ) → T' * (d * q) ≡ T * y → T ≤ w → y * 16777216 ≤ q → T' * 16777216 * q ≤ w * q
+      go q y w e h k = omega (arith, e, mul-le-mul-right (y * 16777216) h, mul-le-mul-left w k, mul-le-mul-right (T' * q) o)
+
+  tiny-sine : (y : Float) → Is y false x → Close y (pos (sinAt x))
+  tiny-sine y i =
+      let r : sum 8 3 x * 16777216 ≤ whole = le-trans (mul-le-mul-right 16777216 (under x xD 8 3)) (next-few (one 1 x) (one 3 x) 6 first-few (lit< tt) (one-next 1 x (lit< tt))) in
+      let s = cut x tiny-half 8 1 (lit≤ tt) in
+      close-at y x (sinAt x) i (up' (sinAt x) (sum 8 3 x) (one 1 x) whole s r (first x)) (down' (sinAt x) (sum 8 3 x) (one 1 x) whole s (first x))
+    where
+      up' : (S R T w : ℕ) → S + R ≡ T → R * 16777216 ≤ w → T * D ≡ x * w → x * w * 2 ^ 20 ≤ S * D * 2 ^ 20 + D * w
+      up' S R T w e h f = omega (arith, ap (λ (z : ℕ). z * D) e, mul-le-mul-right D h)
+
+      down' : (S R T w : ℕ) → S + R ≡ T → T * D ≡ x * w → S * D * 2 ^ 20 ≤ x * w * 2 ^ 20 + D * w
+      down' S R T w e f = omega (arith, ap (λ (z : ℕ). z * D) e)
+
+  tiny-cosine : (y : Float) → Is y false D → Close y (pos (cosAt x))
+  tiny-cosine y i =
+      let r : sum 8 2 x * 16777216 ≤ whole = le-trans (mul-le-mul-right 16777216 (under x xD 8 2)) (next-few (one 0 x) (one 2 x) 2 (omega (arith, none x)) (lit< tt) (one-next 0 x (lit< tt))) in
+      let s = cut x tiny-half 8 0 (lit≤ tt) in
+      close-at y D (cosAt x) i (up' (cosAt x) (sum 8 2 x) (one 0 x) whole s r (none x)) (down' (cosAt x) (sum 8 2 x) (one 0 x) whole s (none x))
+    where
+      up' : (S R T w : ℕ) → S + R ≡ T → R * 16777216 ≤ w → T ≡ w → D * w * 2 ^ 20 ≤ S * D * 2 ^ 20 + D * w
+      up' S R T w e h f = omega (arith, ap (λ (z : ℕ). z * D) e, ap (λ (z : ℕ). z * D) f, mul-le-mul-right D h)
+
+      down' : (S R T w : ℕ) → S + R ≡ T → T ≡ w → S * D * 2 ^ 20 ≤ D * w * 2 ^ 20 + D * w
+      down' S R T w e f = omega (arith, ap (λ (z : ℕ). z * D) e, ap (λ (z : ℕ). z * D) f)
+
+-- ---- any other angle
+whole-pos : 0 < whole
+unfolding whole
+whole-pos = lit< tt
+
+below-two : (p F c : ℕ) → F ≤ whole → c ≤ 661 → Near (p * whole * 1000000000) (F * E * 1000000000) (c * (E * whole)) → p < 2 * E
+below-two p F c h k n = lt-of-mul-lt-mul-right whole (go p F whole E (n .hi) (mul-le-mul-right E h) (mul-le-mul-right (E * whole) k) (mul-pos E-pos whole-pos))
+  where
+    go : (p F w e : ℕ) → p * w * 1000000000 ≤ F * e * 1000000000 + c * (e * w) → F * e ≤ w * e → c * (e * w) ≤ 661 * (e * w) → 0 < e * w → p * w < 2 * e * w
+    go p F w e a b c d = omega arith
+
+-- a minus goes through the placing: r is j mod 4
+side : Bool → Bool → Bool
+side s b = cond b (not s) s
+
+odd : (r : ℕ) → r < 4 → (b : Bool) (S C : ℕ) → placed negℤ ((4 - r) % 4) (signed (side true b) S) (pos C) ≡ negℤ (placed negℤ r (signed (side false b) S) (pos C))
+unfolding placed side
+odd zero h true S C = sym (negℤ-negℤ (pos S))
+odd zero h false S C = refl
+odd (suc zero) h b S C = refl
+odd (suc (suc zero)) h true S C = sym (ap negℤ (negℤ-negℤ (pos S)))
+odd (suc (suc zero)) h false S C = refl
+odd (suc (suc (suc zero))) h b S C = sym (negℤ-negℤ (pos C))
+odd (suc (suc (suc (suc r)))) h b S C = absurd (no r h)
+  where
+    no : (r : ℕ) → suc (suc (suc (suc r))) < 4 → ⊥
+    no r h = omega arith
+
+even : (r : ℕ) → r < 4 → (b : Bool) (S C : ℕ) → placed negℤ (((4 - r) % 4 + 1) % 4) (signed (side true b) S) (pos C) ≡ placed negℤ ((r + 1) % 4) (signed (side false b) S) (pos C)
+unfolding placed side
+even zero h b S C = refl
+even (suc zero) h true S C = sym (negℤ-negℤ (pos S))
+even (suc zero) h false S C = refl
+even (suc (suc zero)) h b S C = refl
+even (suc (suc (suc zero))) h true S C = refl
+even (suc (suc (suc zero))) h false S C = negℤ-negℤ (pos S)
+even (suc (suc (suc (suc r)))) h b S C = absurd (no r h)
+  where
+    no : (r : ℕ) → suc (suc (suc (suc r))) < 4 → ⊥
+    no r h = omega arith
+
+tiny-step : step * lift ≡ 4 * tiny
+unfolding step lift tiny
+tiny-step = refl
+
+module _ (s : Bool) (m : ℕ) (e : ℤ) (f : T (fits binary32 (fin s m e))) (u : UpTo26 (fin s m e)) (big : tinyOf (fin s m e) ≡ false) where
+  abbrev x : ℕ
+  x = xOf m e
+
+  x-few : x ≤ 26 * D
+  x-few = subst (λ (z : ℕ). z ≤ 26 * D) (size-is s m e) (u .size)
+
+  abbrev X : Float
+  X = fin false m e
+
+  X-few : x * lift ≤ 26 * E
+  X-few = subst (λ (z : ℕ). x * lift ≤ 26 * z) (sym E-lift) (go x lift D x-few)
+    where
+      go : (x l d : ℕ) → x ≤ 26 * d → x * l ≤ 26 * (d * l)
+      go x l d h = omega (arith, mul-le-mul-right l h)
+
+  X-is : Val X (x * lift)
+  X-is = val-of m e (shallow binary32 s m e f)
+
+  turn : Turned X (x * lift)
+  turn = turned-of X (x * lift) X-is X-few
+
+  abbrev j : ℕ
+  j = turn .j
+
+  at : Found x j
+  at = found x j x-few (large-size s m e f big) (less (turn .hi), more (turn .lo)) (which s m e f (inside s m e f x-few))
+    where
+      less : 2 * (j * (H * lift)) ≤ 2 * (x * lift) + H * lift + 8 * tiny → 2 * (j * H) ≤ 2 * x + H + 2 * step
+      less h = le-of-mul-le-mul-right {k = lift} (go H lift step tiny tiny-step h) lift-pos
+        where
+          go : (h l p t : ℕ) → p * l ≡ 4 * t → 2 * (j * (h * l)) ≤ 2 * (x * l) + h * l + 8 * t → 2 * (j * h) * l ≤ (2 * x + h + 2 * p) * l
+          go h l p t e k = omega arith
+
+      more : 2 * (x * lift) ≤ 2 * (j * (H * lift)) + H * lift + 8 * tiny → 2 * x ≤ 2 * (j * H) + H + 2 * step
+      more h = le-of-mul-le-mul-right {k = lift} (go H lift step tiny tiny-step h) lift-pos
+        where
+          go : (h l p t : ℕ) → p * l ≡ 4 * t → 2 * (x * l) ≤ 2 * (j * (h * l)) + h * l + 8 * t → 2 * x * l ≤ (2 * (j * h) + h + 2 * p) * l
+          go h l p t e k = omega arith
 
   y : ℕ
   y = at .y
 
-  yD : y ≤ D
+  half : 2 * y < H
   unfolding y
-  yD = small s (at .b) x (at .j) (at .y) (at .half) (at .beside)
+  half = at .half
 
-  r : ℕ
-  r = restOf n
-
-  cs : (g : Bool) → Close (sineAt g r) (signed g (sinAt y))
-  unfolding sineAt r y
-  cs g = close g (sineUnits (restOf n)) (sinAt (at .y)) (sin-le (restOf n) (squareOf (restOf n)) (at .part)) (sin-near (restOf n) (at .y) (at .lo) (at .hi) (at .part) (unfold y in yD))
-
-  cc : Close (cosineAt r) (pos (cosAt y))
-  unfolding cosineAt r y
-  cc = close false (cosineUnits (restOf n)) (cosAt (at .y)) (cos-le (squareOf (restOf n))) (cos-near (restOf n) (at .y) (at .lo) (at .hi) (at .part) (unfold y in yD))
-
-  abbrev side : Bool
-  side = cond (at .b) (not s) s
-
-  sided : Close (sineAt (shortOf n) r) (signed side (sinAt y))
-  unfolding r
-  sided = go (at .side)
+  aside : (b : Bool) (y : ℕ) → Beside b x j y → Aside b (x * lift) (j * (H * lift)) (y * lift)
+  aside true y h = go x H lift h
     where
-      go : (shortOf n ≡ side) ⊎ (restOf n ≡ 0) → Close (sineAt (shortOf n) (restOf n)) (signed side (sinAt y))
-      go (inl e) = subst (λ (g : Bool). Close (sineAt g (restOf n)) (signed side (sinAt y))) (sym e) (unfold r in cs side)
-      go (inr e) =
-          subst (λ (z : ℕ). Close (sineAt (shortOf n) z) (signed side (sinAt y))) (sym e)
-          (zero-close side (shortOf n) (signed side (sinAt y)) (subst (λ (z : ℕ). Close (sineAt side z) (signed side (sinAt y))) e (unfold r in cs side)))
+      go : (x h l : ℕ) → y + x ≡ j * h → y * l + x * l ≡ j * (h * l)
+      go x h l e = omega (arith, ap (λ (z : ℕ). z * l) e)
+  aside false y h = go x H lift h
+    where
+      go : (x h l : ℕ) → y + j * h ≡ x → y * l + j * (h * l) ≡ x * l
+      go x h l e = omega (arith, ap (λ (z : ℕ). z * l) e)
 
-  pub sine-close : Close (sineOf t) (sine (parts t))
-  unfolding sineOf n r s x y
-  sine-close =
-      subst (λ (z : ℤ). Close (sineOf t) (sine z)) (sym (sign-is t))
-      (subst (λ (z : ℤ). Close (sineOf t) z) (sym (sine-is s (at .b) x (at .j) (at .y) (at .half) (at .beside)))
-      (subst (λ (k : ℕ). Close (sineOf t) (placed negℤ k (signed side (sinAt y)) (pos (cosAt y)))) (sym (at .quarter)) (by-quarter (kOf n % 4) sided cc)))
+  far : 5 * tiny < at .y * lift
+  far = go (at .y) lift step tiny tiny-step (mul-le-mul-right lift (at .far)) (unfold tiny in lit< tt)
+    where
+      go : (y l p t : ℕ) → p * l ≡ 4 * t → 8 * p * l ≤ y * l → 0 < t → 5 * t < y * l
+      go y l p t e h o = omega arith
 
-  wrap : (k : ℕ) → (k % 4 + 1) % 4 ≡ (k + 1) % 4
-  wrap k = omega arith
+  few-j : j ≤ 20
+  few-j = tight (le-of-mul-le-mul-right {k = H} (go (at .b) (at .beside)) H-pos)
+    where
+      tight : j ≤ 18 → j ≤ 20
+      tight h = omega arith
 
-  pub cosine-close : Close (cosineOf t) (cosine (parts t))
-  unfolding cosineOf n r s x y
-  cosine-close =
-      subst (λ (z : ℤ). Close (cosineOf t) (cosine z)) (sym (sign-is t))
-      (subst (λ (z : ℤ). Close (cosineOf t) z) (sym (cosine-is s (at .b) x (at .j) (at .y) (at .half) (at .beside)))
-      (subst (λ (k : ℕ). Close (cosineOf t) (placed negℤ ((k + 1) % 4) (signed side (sinAt y)) (pos (cosAt y)))) (sym (at .quarter))
-      (subst (λ (k : ℕ). Close (cosineOf t) (placed negℤ k (signed side (sinAt y)) (pos (cosAt y)))) (sym (wrap (kOf n))) (by-quarter ((kOf n + 1) % 4) sided cc))))
+      go : (b : Bool) → Beside b x j (at .y) → j * H ≤ 18 * H
+      go true h = omega (arith, x-few, at .half, D-H)
+      go false h = omega (arith, x-few, D-H)
+
+  d : Float
+  d = restOf X
+
+  left : Rest d (at .b) (y * lift)
+  unfolding d y restOf
+  left = rest-of X (sub binary64 (countedOf X) many) (x * lift) j (at .y * lift) (at .b) X-is X-few (turn .is) few-j (aside (at .b) (at .y) (at .beside)) far
+
+  abbrev r : Float
+  r = sizedOf d
+
+  S : Sined y half r (left .a) (left .fit) (left .is) (left .near)
+  S = sined y half r (left .a) (left .fit) (left .is) (left .near)
+
+  C : Cosined y half r (left .a) (left .fit) (left .is) (left .near)
+  C = cosined y half r (left .a) (left .fit) (left .is) (left .near)
+
+  y-few : y ≤ D
+  y-few = yD y half
+
+  sin-few : sinAt y ≤ whole
+  sin-few =
+      le-trans (under y y-few 9 1)
+      (le-of-mul-le-mul-right {k = D} (subst (λ (z : ℕ). z ≤ whole * D) (sym (first y)) (subst (λ (z : ℕ). y * whole ≤ z) (mul-comm D whole) (mul-le-mul-right whole y-few))) D-pos)
+
+  cos-few : cosAt y ≤ whole
+  cos-few = subst (λ (z : ℕ). cosAt y ≤ z) (none y) (under y y-few 9 0)
+
+  abbrev answer : Float
+  answer = narrowOf (sineFrom r (mul binary64 r r))
+
+  sin-close : Close answer (pos (sinAt y))
+  sin-close = close answer (S .p) (sinAt y) 661 (lit≤ tt) (narrowed (S .p) (below-two (S .p) (sinAt y) 661 sin-few (lit≤ tt) (S .near)) (sineFrom r (mul binary64 r r)) (S .is)) (S .near)
+
+  cc : Close (cosineAt d) (pos (cosAt y))
+  unfolding cosineAt
+  cc =
+      close (narrowOf (cosineFrom (mul binary64 r r))) (C .p) (cosAt y) 150 (lit≤ tt)
+      (narrowed (C .p) (below-two (C .p) (cosAt y) 150 cos-few (lit≤ tt) (C .near)) (cosineFrom (mul binary64 r r)) (C .is)) (C .near)
+
+  cs : Close (sineAt d) (signed (side false (at .b)) (sinAt y))
+  unfolding sineAt side
+  cs = subst (λ (g : Bool). Close (cond g (neg answer) answer) (signed (side false (at .b)) (sinAt y))) (sym (left .minus)) (go (at .b))
+    where
+      go : (b : Bool) → Close (cond b (neg answer) answer) (signed (side false b) (sinAt y))
+      go false = sin-close
+      go true = turned sin-close
+
+  -- the size's answers, and the sign
+  abbrev σ : ℤ
+  σ = placed negℤ (j % 4) (signed (side false (at .b)) (sinAt y)) (pos (cosAt y))
+
+  abbrev γ : ℤ
+  γ = placed negℤ ((j % 4 + 1) % 4) (signed (side false (at .b)) (sinAt y)) (pos (cosAt y))
+
+  size-sine : Close (sineOfSize X) σ
+  unfolding sineOfSize d
+  size-sine = subst (λ (k : ℕ). Close (sineOfSize X) (placed negℤ k (signed (side false (at .b)) (sinAt y)) (pos (cosAt y)))) (turn .bits) (by-quarter (toBits binary64 (countedOf X) % 4) cs cc)
+
+  size-cosine : Close (cosineOfSize X) γ
+  unfolding cosineOfSize d
+  size-cosine =
+      subst (λ (k : ℕ). Close (cosineOfSize X) (placed negℤ ((k + 1) % 4) (signed (side false (at .b)) (sinAt y)) (pos (cosAt y)))) (turn .bits)
+      (by-quarter ((toBits binary64 (countedOf X) % 4 + 1) % 4) cs cc)
+
+  few-quarters : j % 4 < 4
+  few-quarters = omega arith
+
+  sine-at : (s : Bool) → sine (signed s x) ≡ cond s (negℤ σ) σ
+  unfolding y mod4 side
+  sine-at false = sine-is false (at .b) x j (at .y) (at .half) (at .beside)
+  sine-at true =
+      sine-is true (at .b) x j (at .y) (at .half) (at .beside)
+      ∙ ap (λ (k : ℕ). placed negℤ k (signed (side true (at .b)) (sinAt (at .y))) (pos (cosAt (at .y)))) (mod4-minus j)
+      ∙ odd (j % 4) few-quarters (at .b) (sinAt (at .y)) (cosAt (at .y))
+
+  cosine-at : (s : Bool) → cosine (signed s x) ≡ γ
+  unfolding y mod4 side
+  cosine-at false = cosine-is false (at .b) x j (at .y) (at .half) (at .beside)
+  cosine-at true =
+      cosine-is true (at .b) x j (at .y) (at .half) (at .beside)
+      ∙ ap (λ (k : ℕ). placed negℤ ((k + 1) % 4) (signed (side true (at .b)) (sinAt (at .y))) (pos (cosAt (at .y)))) (mod4-minus j)
+      ∙ even (j % 4) few-quarters (at .b) (sinAt (at .y)) (cosAt (at .y))
+
+  abbrev t : Float
+  t = fin s m e
+
+  sized : sizeOf t ≡ X
+  sized = size-of s m e (inside s m e f x-few) big
+
+  by-sign : (s : Bool) → Close (cond s (neg (sineOfSize X)) (sineOfSize X)) (cond s (negℤ σ) σ)
+  by-sign false = size-sine
+  by-sign true = turned size-sine
+
+  large-sine : Close (sineOf t) (sine (parts t))
+  unfolding sineOf parts
+  large-sine =
+      subst (λ (b : Bool). Close (cond b t (cond (lt t (ofBits binary32 0)) (neg (sineOfSize (sizeOf t))) (sineOfSize (sizeOf t)))) (sine (signed s x))) (sym big)
+      (subst (λ (b : Bool). Close (cond b (neg (sineOfSize (sizeOf t))) (sineOfSize (sizeOf t))) (sine (signed s x))) (sym (sign-of s m e big))
+      (subst (λ (z : Float). Close (cond s (neg (sineOfSize z)) (sineOfSize z)) (sine (signed s x))) (sym sized)
+      (subst (λ (z : ℤ). Close (cond s (neg (sineOfSize X)) (sineOfSize X)) z) (sym (sine-at s)) (by-sign s))))
+
+  large-cosine : Close (cosineOf t) (cosine (parts t))
+  unfolding cosineOf parts
+  large-cosine =
+      subst (λ (b : Bool). Close (cond b (ofBits binary32 0x3F80_0000) (cosineOfSize (sizeOf t))) (cosine (signed s x))) (sym big)
+      (subst (λ (z : Float). Close (cosineOfSize z) (cosine (signed s x))) (sym sized)
+      (subst (λ (z : ℤ). Close (cosineOfSize X) z) (sym (cosine-at s)) size-cosine))
+
+-- ---- a tiny angle's answers
+zero-turn : (s : Bool) → mod4 (signed s 0) ≡ 0
+unfolding mod4
+zero-turn true = refl
+zero-turn false = refl
+
+module _ (s : Bool) (m : ℕ) (e : ℤ) (f : T (fits binary32 (fin s m e))) (small : tinyOf (fin s m e) ≡ true) where
+  abbrev x' : ℕ
+  x' = xOf m e
+
+  l : x' * 4096 ≤ D
+  l = tiny-size s m e f small
+
+  itself : Is (fin false m e) false x'
+  unfolding parts
+  itself = record { number = tt; parts-are = refl }
+
+  one-is : Is (ofBits binary32 0x3F80_0000) false D
+  unfolding ofBits D
+  one-is = is (ofBits binary32 0x3F80_0000) false (2 ^ 149) (refl, refl)
+
+  at-sign : (s : Bool) → Close (fin s m e) (signed s (sinAt x'))
+  unfolding neg
+  at-sign false = tiny-sine x' l (fin false m e) itself
+  at-sign true = turned (tiny-sine x' l (fin false m e) itself)
+
+  beside : Beside false x' 0 x'
+  beside = omega arith
+
+  small-sine : Close (sineOf (fin s m e)) (sine (parts (fin s m e)))
+  unfolding sineOf parts placed
+  small-sine =
+      let w = sineOfSize (sizeOf (fin s m e)) in
+      subst (λ (b : Bool). Close (cond b (fin s m e) (cond (lt (fin s m e) (ofBits binary32 0)) (neg w) w)) (sine (signed s x'))) (sym small)
+      (subst (λ (z : ℤ). Close (fin s m e) z) (sym (sine-is s false x' 0 x' (tiny-half x' l) beside))
+      (subst (λ (k : ℕ). Close (fin s m e) (placed negℤ k (signed s (sinAt x')) (pos (cosAt x')))) (sym (zero-turn s)) (at-sign s)))
+
+  small-cosine : Close (cosineOf (fin s m e)) (cosine (parts (fin s m e)))
+  unfolding cosineOf parts placed
+  small-cosine =
+      subst (λ (b : Bool). Close (cond b (ofBits binary32 0x3F80_0000) (cosineOfSize (sizeOf (fin s m e)))) (cosine (signed s x'))) (sym small)
+      (subst (λ (z : ℤ). Close (ofBits binary32 0x3F80_0000) z) (sym (cosine-is s false x' 0 x' (tiny-half x' l) beside))
+      (subst (λ (k : ℕ). Close (ofBits binary32 0x3F80_0000) (placed negℤ ((k + 1) % 4) (signed s (sinAt x')) (pos (cosAt x')))) (sym (zero-turn s))
+      (tiny-cosine x' l (ofBits binary32 0x3F80_0000) one-is)))
+
+-- ---- the two theorems
+pub sine-close : (t : Float) → T (fits binary32 t) → UpTo26 t → Close (sineOf t) (sine (parts t))
+sine-close nan f u = absurd (u .number)
+sine-close (inf s) f u = absurd (u .number)
+sine-close (fin s m e) f u = go (tinyOf (fin s m e)) refl
+  where
+    go : (b : Bool) → tinyOf (fin s m e) ≡ b → Close (sineOf (fin s m e)) (sine (parts (fin s m e)))
+    go true i = small-sine s m e f i
+    go false i = large-sine s m e f u i
+
+pub cosine-close : (t : Float) → T (fits binary32 t) → UpTo26 t → Close (cosineOf t) (cosine (parts t))
+cosine-close nan f u = absurd (u .number)
+cosine-close (inf s) f u = absurd (u .number)
+cosine-close (fin s m e) f u = go (tinyOf (fin s m e)) refl
+  where
+    go : (b : Bool) → tinyOf (fin s m e) ≡ b → Close (cosineOf (fin s m e)) (cosine (parts (fin s m e)))
+    go true i = small-cosine s m e f i
+    go false i = large-cosine s m e f u i

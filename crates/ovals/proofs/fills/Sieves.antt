@@ -1,4 +1,4 @@
--- What lands of a sieve, which pixels its test is made at, and the sieves of pies and round fills.
+-- What lands of a sieve, and the sieves of pies and round fills.
 use mathlib.Core.Path.{_≡_, refl, sym, ap, ap₂, _∙_}
 use mathlib.Core.Bool.{Bool, true, false, cond, _||_, _&&_}
 use mathlib.Core.List.{List, [], _∷_, flatMap}
@@ -10,20 +10,12 @@ use lib.Dec.{eqb}
 use lib.Ieee.{Float}
 use lib.IntN.{ℤ, pos, negsuc, natAbs, subℕ, _+ℤ_}
 use lib.ListN.{length}
-use lib.Signed.{leZ, ltZ}
 use mir.Syntax.{w32}
 use mir.Val.{SFits, toZ, ofZ}
 use mir.ValLaws.{toZ-ofZ}
-use Rattle.angle.specs.Nodes.{nodes}
 use Rattle.curves.specs.declared.corners.Corners.{Corners}
-use Rattle.curves.specs.declared.pies.Pie.{Pie}
-use Rattle.curves.specs.declared.regions.Region.{Region}
-use Rattle.curves.specs.declared.regions.Region.the-variants.{Sector, Rounded}
 use Rattle.curves.specs.Corners.{radiusOf, cornersOf, inRound}
-use Rattle.curves.specs.Pies.{pieOf, inPie, Inside}
-use Rattle.curves.specs.Regions.{takes}
-use Rattle.curves.proofs.Domain.{apt}
-use Rattle.curves.proofs.Parts.{in-pie-is, in-round-is}
+use Rattle.curves.specs.Pies.{inPie}
 use Rattle.pixels.specs.declared.Canvas.{Canvas}
 use Rattle.canvas.specs.declared.Clip.{Clip}
 use Rattle.ovals.specs.Faults.{Shaped}
@@ -34,13 +26,10 @@ use Rattle.canvas.specs.Boxes.{side, fill}
 use Rattle.pixels.specs.Rows.{run, mark, flat}
 use Rattle.ovals.specs.Curves.{sieve, pie, roundFill}
 use Rattle.canvas.specs.Walk.{lowered, Cut, Work, Fits, Ready, Did}
-use Rattle.ovals.specs.Sift.{sift, sifted, land, AskedAt, AskedIn}
-use Rattle.canvas.proofs.span.Spans.{span-holds}
+use Rattle.ovals.specs.Sift.{sift, sifted, land}
 use Rattle.canvas.proofs.plot.Draws.{did-none}
 use Rattle.canvas.proofs.plot.Paints.{drawn-is}
-use Rattle.pixels.proofs.rows.Rows.{each-same}
-use Rattle.words.proofs.Either.{neither}
-use Rattle.canvas.proofs.boxes.Boxes.{inks-each, spot-hit, pixels-hits, cut-run, box-none, fill-none, pixels-le, fill-le}
+use Rattle.canvas.proofs.boxes.Boxes.{inks-each, spot-hit, pixels-hits, cut-run, fill-none, pixels-le, fill-le}
 
 -- ---- what lands
 
@@ -83,56 +72,11 @@ module _ (v : Canvas) (c : Clip) (ps : List Plot) (hs : List Hit) (e : hits v c 
   pub land-did : (w′ : Work) → w′ ≡ land v hs w → Did v c ps w w′
   land-did w′ f = record { same = f ∙ ap (λ (l : List Hit). land v l w) (sym e) ∙ sym (drawn-is v c ps w) }
 
--- ---- where the test is made
-
-module _ (v : Canvas) (s : Region) (t : List ℕ) (p q w h : ℕ) (c d : ℤ) (m n x0 x1 y0 y1 : ℕ)
-    (xs : Cut (p - 2147483648) (p + w - 2147483648) c m (v .width) x0 x1)
-    (ys : Cut (q - 2147483648) (q + h - 2147483648) d n (v .height) y0 y1) where
-  pub asked-at : v .width ≤ 32767 → v .height ≤ 32767 → AskedIn s t (lowered p) (lowered q) w h → AskedAt s t x0 x1 y0 y1
-  asked-at wide high a = record {
-    rows = λ j l k.
-        let down : y0 < y1 = omega arith in
-        a .rows j x0 x1 (omega (arith, ys .held)) (omega (arith, xs .held))
-        (span-holds q h _ _ refl refl .inside j (omega (arith, ys .begins down)) (omega (arith, ys .ends down)))
-        (λ i o u. let right : x0 < x1 = omega arith in
-        span-holds p w _ _ refl refl .inside i (omega (arith, xs .begins right)) (omega (arith, xs .ends right)));
-  }
-
 -- ---- the sieve of a pie
 
-sieve-alike : (t u : ℕ → ℕ → Bool) (xs ys : List ℕ) → ((i j : ℕ) → t i j ≡ u i j) → sieve t xs ys ≡ sieve u xs ys
-unfolding sieve
-sieve-alike t u xs ys e = each-same _ _ ys (λ j. each-same _ _ xs (λ i. ap (λ (a : Bool). cond a (at (pos i) (pos j) ∷ []) []) (e i j)))
-
-inside : (x : ℤ) (w i : ℕ) → natAbs x ≤ 32768 → w ≤ 32767 → i ≤ 32767 → within x w (pos i) ≡ true → Inside x w i
-unfolding within
-inside x w i l m n e = let k = both-are (leZ x (pos i)) (ltZ (pos i) (x +ℤ pos w)) e in record { corner = l; side = m; place = n; from = k .0; to = k .1 }
-  where
-    both-are : (a b : Bool) → (a && b) ≡ true → (a ≡ true) × (b ≡ true)
-    both-are true b e = (refl, e)
-    both-are false b e = absurd (let z : _≡_ {A = ℕ} 0 1 = cc in omega arith)
-
-module _ (v : Canvas) (x y : ℤ) (w h : ℕ) (start arc : ℤ) where
-  module _ (k : Pie) (p q : ℕ) (e : k ≡ pieOf x y w h start arc) (a : lowered p ≡ x) (b : lowered q ≡ y) where
-    pub pie-sieve : pie v x y w h start arc ≡ sieve (takes (Sector k)) (side (lowered p) w (v .width)) (side (lowered q) h (v .height))
-    unfolding pie sieve
-    pie-sieve = go (eqb w 0 || eqb h 0) refl
-      where
-        go : (t : Bool) → (eqb w 0 || eqb h 0) ≡ t
-            → cond t [] (sieve (inPie x y w h start arc) (side x w (v .width)) (side y h (v .height))) ≡ sieve (takes (Sector k)) (side (lowered p) w (v .width)) (side (lowered q) h (v .height))
-        go true f = sym (box-none (λ i j. cond (takes (Sector k) i j) (at (pos i) (pos j) ∷ []) []) p q w h (v .width) (v .height) f)
-        go false f =
-            rw (a, b, e)
-            (sieve-alike (inPie x y w h start arc) (takes (Sector (pieOf x y w h start arc))) (side x w (v .width)) (side y h (v .height))
-            (λ i j. sym (in-pie-is x y w h start arc i j)))
-
-    pub pie-asked : Shaped x y w h → (t : List ℕ) → t ≡ nodes → AskedIn (Sector k) t (lowered p) (lowered q) w h
-    pie-asked s t f = rw (a, b, e) (record {
-      rows = λ j x0 x1 l m n o. record {
-        table = f;
-        apt = λ i g d. apt x y w h start arc i j (inside x w i (s .left) (s .wide) (omega arith) (o i g d)) (inside y h j (s .top) (s .high) l n);
-      };
-    })
+pub pie-none : (v : Canvas) (x y : ℤ) (w h : ℕ) (start arc : ℤ) → (eqb w 0 || eqb h 0) ≡ true → pie v x y w h start arc ≡ []
+unfolding pie
+pie-none v x y w h start arc e = rw e
 
 -- a test gives a point or none
 one-at-most : (t : Bool) (p : Point) → length (cond t (p ∷ []) []) ≤ 1
@@ -169,15 +113,6 @@ module _ (v : Canvas) (x y : ℤ) (w h aw ah : ℕ) where
             → cond t [] (cond (eqb aw 0 || eqb ah 0) (fill v x y w h) (sieve (inRound x y w h aw ah) (side x w (v .width)) (side y h (v .height)))) ≡ fill v (lowered p) (lowered q) w h
         go true f = sym (fill-none v p q w h f)
         go false f = let g : (eqb aw 0 || eqb ah 0) ≡ true = rw f at e in rw (g, a, b) refl
-
-    pub round-sieve : (k : Corners) → k ≡ cornersOf x y (x +ℤ pos (w - 1)) (y +ℤ pos (h - 1)) (radiusOf aw w) (radiusOf ah h) → ((eqb w 0 || eqb h 0) || (eqb aw 0 || eqb ah 0)) ≡ false
-        → roundFill v x y w h aw ah ≡ sieve (takes (Rounded k)) (side (lowered p) w (v .width)) (side (lowered q) h (v .height))
-    unfolding roundFill
-    round-sieve k e c =
-        let n = neither (eqb w 0 || eqb h 0) (eqb aw 0 || eqb ah 0) c in
-        rw (n .0, n .1, a, b, e)
-        (sieve-alike (inRound x y w h aw ah) (takes (Rounded (cornersOf x y (x +ℤ pos (w - 1)) (y +ℤ pos (h - 1)) (radiusOf aw w) (radiusOf ah h))))
-        (side x w (v .width)) (side y h (v .height)) (λ i j. sym (in-round-is x y w h aw ah i j)))
 
 pub did-nothing : {v : Canvas} {c : Clip} {w : Work} (f : ℕ → ℕ) (ps : List Point) → ps ≡ [] → Did v c (inks f ps) w w
 unfolding inks

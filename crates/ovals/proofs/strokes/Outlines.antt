@@ -29,7 +29,8 @@ module _ (v : Canvas) (x y : ℤ) (w h : ℕ) (start sweep : ℤ) where
   unfolding arc
   arc-none e = rw e refl
 
-  pub arc-stroke : (o : Oval) (a b c d : Float) → SFits w32 x → SFits w32 y → SFits w32 start → SFits w32 sweep → (eqb w 0 || eqb h 0) ≡ false → o ≡ ovalOf (toZ w32 (ofZ w32 x)) (toZ w32 (ofZ w32 y)) w h
+  pub arc-stroke : (o : Oval) (a b c d : Float) → SFits w32 x → SFits w32 y → SFits w32 start → SFits w32 sweep → (eqb w 0 || eqb h 0) ≡ false
+      → o ≡ ovalOf (toZ w32 (ofZ w32 x)) (toZ w32 (ofZ w32 y)) w h
       → c ≡ ofInt binary32 (toZ w32 (ofZ w32 start)) → a ≡ radiansOf c → d ≡ ofInt binary32 (toZ w32 (ofZ w32 sweep)) → b ≡ radiansOf d → arc v x y w h start sweep ≡ stroke v o a b
   unfolding arc
   arc-stroke o a b c d sx sy ss sw l eo ec ea ed eb =

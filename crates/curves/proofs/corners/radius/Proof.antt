@@ -26,7 +26,12 @@ max-requires c κs = search needs
 
 returns : tie.Need-returns
 unfolding ofBits
-returns c = made (c .before .before .before .args .arc) (c .before .before .before .args .side) (c .before .before .smaller .result) (c .before .nearest-u32-to-f32 .result) (c .max .result) (c .before .before .smaller .ensures) (c .before .nearest-u32-to-f32 .ensures) (c .max .ensures)
+returns c =
+    let o = c .before .before .before in
+    let a = o .args in
+    let smaller = c .before .before .smaller in
+    let nearest-u32-to-f32 = c .before .nearest-u32-to-f32 in
+    made (a .arc) (a .side) (smaller .result) (nearest-u32-to-f32 .result) (c .max .result) (smaller .ensures) (nearest-u32-to-f32 .ensures) (c .max .ensures)
 
 pub radius-spec : {M : Type 1} → statement M
 radius-spec =

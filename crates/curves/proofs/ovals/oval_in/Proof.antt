@@ -13,7 +13,8 @@ use Rattle.curves.proofs.ovals.oval_in.Tie as tie
 abbrev oval : Float → Float → Float → Float → Oval
 oval cx cy a b = record { cx = cx; cy = cy; a = a; b = b }
 
-made : (x y : ℤ) (w h : ℕ) (a b fx fy : Float) → a ≡ halfAxis w → b ≡ halfAxis h → fx ≡ ofInt binary32 x → fy ≡ ofInt binary32 y → oval (add binary32 fx a) (add binary32 fy b) a b ≡ ovalOf x y w h
+made : (x y : ℤ) (w h : ℕ) (a b fx fy : Float) → a ≡ halfAxis w → b ≡ halfAxis h → fx ≡ ofInt binary32 x → fy ≡ ofInt binary32 y
+    → oval (add binary32 fx a) (add binary32 fy b) a b ≡ ovalOf x y w h
 unfolding ovalOf centre
 made x y w h a b fx fy e f g k = cc
 
@@ -30,7 +31,15 @@ nearest-i32-to-f32-requires-2 : tie.Need-nearest-i32-to-f32-requires-2
 nearest-i32-to-f32-requires-2 c κs = search needs
 
 returns : tie.Need-returns
-returns c = made (c .before .before .before .before .args .x) (c .before .before .before .before .args .y) (c .before .before .before .before .args .w) (c .before .before .before .before .args .h) (c .before .before .before .half-axis .result) (c .before .before .half-axis2 .result) (c .before .nearest-i32-to-f32 .result) (c .nearest-i32-to-f322 .result) (c .before .before .before .half-axis .ensures) (c .before .before .half-axis2 .ensures) (as-given (c .before .before .before .before .args .x) (c .before .nearest-i32-to-f32 .result) (c .before .before .before .before .fits .x) (c .before .nearest-i32-to-f32 .ensures)) (as-given (c .before .before .before .before .args .y) (c .nearest-i32-to-f322 .result) (c .before .before .before .before .fits .y) (c .nearest-i32-to-f322 .ensures))
+returns c =
+    let o = c .before .before .before .before in
+    let a = o .args in
+    let nearest-i32-to-f32 = c .before .nearest-i32-to-f32 in
+    let half-axis = c .before .before .before .half-axis in
+    let half-axis2 = c .before .before .half-axis2 in
+    made (a .x) (a .y) (a .w) (a .h) (half-axis .result) (half-axis2 .result) (nearest-i32-to-f32 .result) (c .nearest-i32-to-f322 .result) (half-axis .ensures) (half-axis2 .ensures)
+    (as-given (a .x) (nearest-i32-to-f32 .result) (o .fits .x) (nearest-i32-to-f32 .ensures))
+    (as-given (a .y) (c .nearest-i32-to-f322 .result) (o .fits .y) (c .nearest-i32-to-f322 .ensures))
 
 pub oval-in-spec : {M : Type 1} → statement M
 oval-in-spec =

@@ -60,15 +60,29 @@ most-steps-requires c κs = search needs
 
 returns : tie.Need-returns
 unfolding ofBits
-returns c = low (c .before .before .before .before .before .before .args .o) (c .before .before .before .before .before .before .args .sweep) (c .before .before .before .before .before .before .args .width) (c .before .before .before .before .before .before .args .height) (c .before .before .before .before .before .max .result) (c .before .before .before .before .max2 .result) (c .before .before .before .abs .result) (c .before .before .ceil-size .result) (c .before .most-steps .result) (c .before .before .before .before .before .max .ensures) (c .before .before .before .before .max2 .ensures) (c .before .before .before .abs .ensures) (c .before .before .ceil-size .ensures) (c .before .most-steps .ensures) (c .if1 .taken)
+returns c =
+    let a = c .before .before .before .before .before .before .args in
+    low (a .o) (a .sweep) (a .width) (a .height) (c .before .before .before .before .before .max .result) (c .before .before .before .before .max2 .result)
+    (c .before .before .before .abs .result) (c .before .before .ceil-size .result) (c .before .most-steps .result) (c .before .before .before .before .before .max .ensures)
+    (c .before .before .before .before .max2 .ensures) (c .before .before .before .abs .ensures) (c .before .before .ceil-size .ensures) (c .before .most-steps .ensures) (c .if1 .taken)
 
 returns-2 : tie.Need-returns-2
 unfolding ofBits
-returns-2 c = high (c .before .before .before .before .before .before .before .args .o) (c .before .before .before .before .before .before .before .args .sweep) (c .before .before .before .before .before .before .before .args .width) (c .before .before .before .before .before .before .before .args .height) (c .before .before .before .before .before .before .max .result) (c .before .before .before .before .before .max2 .result) (c .before .before .before .before .abs .result) (c .before .before .before .ceil-size .result) (c .before .before .most-steps .result) (c .before .before .before .before .before .before .max .ensures) (c .before .before .before .before .before .max2 .ensures) (c .before .before .before .before .abs .ensures) (c .before .before .before .ceil-size .ensures) (c .before .before .most-steps .ensures) (c .before .if1 .left) (c .if2 .taken)
+returns-2 c =
+    let a = c .before .before .before .before .before .before .before .args in
+    high (a .o) (a .sweep) (a .width) (a .height) (c .before .before .before .before .before .before .max .result) (c .before .before .before .before .before .max2 .result)
+    (c .before .before .before .before .abs .result) (c .before .before .before .ceil-size .result) (c .before .before .most-steps .result)
+    (c .before .before .before .before .before .before .max .ensures) (c .before .before .before .before .before .max2 .ensures) (c .before .before .before .before .abs .ensures)
+    (c .before .before .before .ceil-size .ensures) (c .before .before .most-steps .ensures) (c .before .if1 .left) (c .if2 .taken)
 
 returns-3 : tie.Need-returns-3
 unfolding ofBits
-returns-3 c = between (c .before .before .before .before .before .before .before .args .o) (c .before .before .before .before .before .before .before .args .sweep) (c .before .before .before .before .before .before .before .args .width) (c .before .before .before .before .before .before .before .args .height) (c .before .before .before .before .before .before .max .result) (c .before .before .before .before .before .max2 .result) (c .before .before .before .before .abs .result) (c .before .before .before .ceil-size .result) (c .before .before .most-steps .result) (c .before .before .before .before .before .before .max .ensures) (c .before .before .before .before .before .max2 .ensures) (c .before .before .before .before .abs .ensures) (c .before .before .before .ceil-size .ensures) (c .before .before .most-steps .ensures) (c .before .if1 .left) (c .if2 .left)
+returns-3 c =
+    let a = c .before .before .before .before .before .before .before .args in
+    between (a .o) (a .sweep) (a .width) (a .height) (c .before .before .before .before .before .before .max .result) (c .before .before .before .before .before .max2 .result)
+    (c .before .before .before .before .abs .result) (c .before .before .before .ceil-size .result) (c .before .before .most-steps .result)
+    (c .before .before .before .before .before .before .max .ensures) (c .before .before .before .before .before .max2 .ensures) (c .before .before .before .before .abs .ensures)
+    (c .before .before .before .ceil-size .ensures) (c .before .before .most-steps .ensures) (c .before .if1 .left) (c .if2 .left)
 
 pub steps-spec : {M : Type 1} → statement M
 steps-spec =

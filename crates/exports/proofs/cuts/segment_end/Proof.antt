@@ -15,19 +15,49 @@ enum-known-s : tie.Need-enum-known-s
 enum-known-s c = search needs
 
 returns : tie.Need-returns
-returns c = end-is (c .before .before .before .args .x1) (c .before .before .before .args .y1) (c .before .before .before .args .x2) (c .before .before .before .args .y2) (c .before .before .before .args .width) (c .before .before .before .args .height) (c .before .before .before .fits .x1) (c .before .before .before .fits .y1) (c .before .before .before .fits .x2) (c .before .before .before .fits .y2) (c .before .before .clip-segment .result) _ (c .before .before .clip-segment .ensures) (c .enum-told .given .1) (c .before .before .before .args .which) _ refl
+returns c =
+    let o = c .before .before .before in
+    let a = o .args in
+    let f = o .fits in
+    let clip-segment = c .before .before .clip-segment in
+    end-is (a .x1) (a .y1) (a .x2) (a .y2) (a .width) (a .height) (f .x1) (f .y1) (f .x2) (f .y2) (clip-segment .result) _ (clip-segment .ensures) (c .enum-told .given .1) (a .which) _ refl
 
 returns-2 : tie.Need-returns-2
-returns-2 c = end-is (c .before .before .before .before .before .before .args .x1) (c .before .before .before .before .before .before .args .y1) (c .before .before .before .before .before .before .args .x2) (c .before .before .before .before .before .before .args .y2) (c .before .before .before .before .before .before .args .width) (c .before .before .before .before .before .before .args .height) (c .before .before .before .before .before .before .fits .x1) (c .before .before .before .before .before .before .fits .y1) (c .before .before .before .before .before .before .fits .x2) (c .before .before .before .before .before .before .fits .y2) (c .before .before .before .before .before .clip-segment .result) _ (c .before .before .before .before .before .clip-segment .ensures) (c .before .before .before .s .given .1) (c .before .before .before .before .before .before .args .which) _ (first-x (c .before .before .before .before .before .before .args .which) _ (record { sfits = c .struct-told .given .0 .1 }) (c .before .match2 .keys1))
+returns-2 c =
+    let o = c .before .before .before .before .before .before in
+    let a = o .args in
+    let f = o .fits in
+    let clip-segment = c .before .before .before .before .before .clip-segment in
+    end-is (a .x1) (a .y1) (a .x2) (a .y2) (a .width) (a .height) (f .x1) (f .y1) (f .x2) (f .y2) (clip-segment .result) _ (clip-segment .ensures) (c .before .before .before .s .given .1)
+    (a .which) _ (first-x (a .which) _ (record { sfits = c .struct-told .given .0 .1 }) (c .before .match2 .keys1))
 
 returns-3 : tie.Need-returns-3
-returns-3 c = end-is (c .before .before .before .before .before .before .args .x1) (c .before .before .before .before .before .before .args .y1) (c .before .before .before .before .before .before .args .x2) (c .before .before .before .before .before .before .args .y2) (c .before .before .before .before .before .before .args .width) (c .before .before .before .before .before .before .args .height) (c .before .before .before .before .before .before .fits .x1) (c .before .before .before .before .before .before .fits .y1) (c .before .before .before .before .before .before .fits .x2) (c .before .before .before .before .before .before .fits .y2) (c .before .before .before .before .before .clip-segment .result) _ (c .before .before .before .before .before .clip-segment .ensures) (c .before .before .before .s .given .1) (c .before .before .before .before .before .before .args .which) _ (first-y (c .before .before .before .before .before .before .args .which) _ (record { sfits = c .struct-told2 .given .1 .0 .1 }) (c .before .match2 .keys2))
+returns-3 c =
+    let o = c .before .before .before .before .before .before in
+    let a = o .args in
+    let f = o .fits in
+    let clip-segment = c .before .before .before .before .before .clip-segment in
+    end-is (a .x1) (a .y1) (a .x2) (a .y2) (a .width) (a .height) (f .x1) (f .y1) (f .x2) (f .y2) (clip-segment .result) _ (clip-segment .ensures) (c .before .before .before .s .given .1)
+    (a .which) _ (first-y (a .which) _ (record { sfits = c .struct-told2 .given .1 .0 .1 }) (c .before .match2 .keys2))
 
 returns-4 : tie.Need-returns-4
-returns-4 c = end-is (c .before .before .before .before .before .before .args .x1) (c .before .before .before .before .before .before .args .y1) (c .before .before .before .before .before .before .args .x2) (c .before .before .before .before .before .before .args .y2) (c .before .before .before .before .before .before .args .width) (c .before .before .before .before .before .before .args .height) (c .before .before .before .before .before .before .fits .x1) (c .before .before .before .before .before .before .fits .y1) (c .before .before .before .before .before .before .fits .x2) (c .before .before .before .before .before .before .fits .y2) (c .before .before .before .before .before .clip-segment .result) _ (c .before .before .before .before .before .clip-segment .ensures) (c .before .before .before .s .given .1) (c .before .before .before .before .before .before .args .which) _ (second-x (c .before .before .before .before .before .before .args .which) _ (record { sfits = c .struct-told3 .given .1 .1 .0 .1 }) (c .before .match2 .keys3))
+returns-4 c =
+    let o = c .before .before .before .before .before .before in
+    let a = o .args in
+    let f = o .fits in
+    let clip-segment = c .before .before .before .before .before .clip-segment in
+    end-is (a .x1) (a .y1) (a .x2) (a .y2) (a .width) (a .height) (f .x1) (f .y1) (f .x2) (f .y2) (clip-segment .result) _ (clip-segment .ensures) (c .before .before .before .s .given .1)
+    (a .which) _ (second-x (a .which) _ (record { sfits = c .struct-told3 .given .1 .1 .0 .1 }) (c .before .match2 .keys3))
 
 returns-5 : tie.Need-returns-5
-returns-5 c = end-is (c .before .before .before .before .before .before .args .x1) (c .before .before .before .before .before .before .args .y1) (c .before .before .before .before .before .before .args .x2) (c .before .before .before .before .before .before .args .y2) (c .before .before .before .before .before .before .args .width) (c .before .before .before .before .before .before .args .height) (c .before .before .before .before .before .before .fits .x1) (c .before .before .before .before .before .before .fits .y1) (c .before .before .before .before .before .before .fits .x2) (c .before .before .before .before .before .before .fits .y2) (c .before .before .before .before .before .clip-segment .result) _ (c .before .before .before .before .before .clip-segment .ensures) (c .before .before .before .s .given .1) (c .before .before .before .before .before .before .args .which) _ (second-y (c .before .before .before .before .before .before .args .which) _ (record { sfits = c .struct-told4 .given .1 .1 .1 .0 .1 }) (c .before .match2 .rest .0 .0 .1) (c .before .match2 .rest .0 .1) (c .before .match2 .rest .1))
+returns-5 c =
+    let o = c .before .before .before .before .before .before in
+    let a = o .args in
+    let f = o .fits in
+    let clip-segment = c .before .before .before .before .before .clip-segment in
+    end-is (a .x1) (a .y1) (a .x2) (a .y2) (a .width) (a .height) (f .x1) (f .y1) (f .x2) (f .y2) (clip-segment .result) _ (clip-segment .ensures) (c .before .before .before .s .given .1)
+    (a .which) _ (second-y (a .which) _ (record { sfits = c .struct-told4 .given .1 .1 .1 .0 .1 }) (c .before .match2 .rest .0 .0 .1) (c .before .match2 .rest .0 .1)
+    (c .before .match2 .rest .1))
 
 pub segment-end-spec : {M : Type 1} → statement M
 segment-end-spec =

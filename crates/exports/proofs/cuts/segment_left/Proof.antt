@@ -15,10 +15,20 @@ enum-told-2 : tie.Need-enum-told-2
 enum-told-2 c = search needs
 
 returns : tie.Need-returns
-returns c = left-is (c .before .before .before .args .x1) (c .before .before .before .args .y1) (c .before .before .before .args .x2) (c .before .before .before .args .y2) (c .before .before .before .args .width) (c .before .before .before .args .height) (c .before .before .before .fits .x1) (c .before .before .before .fits .y1) (c .before .before .before .fits .x2) (c .before .before .before .fits .y2) (c .before .before .clip-segment .result) _ (c .before .before .clip-segment .ensures) (c .enum-told .given .1) _ refl
+returns c =
+    let o = c .before .before .before in
+    let a = o .args in
+    let f = o .fits in
+    let clip-segment = c .before .before .clip-segment in
+    left-is (a .x1) (a .y1) (a .x2) (a .y2) (a .width) (a .height) (f .x1) (f .y1) (f .x2) (f .y2) (clip-segment .result) _ (clip-segment .ensures) (c .enum-told .given .1) _ refl
 
 returns-2 : tie.Need-returns-2
-returns-2 c = left-is (c .before .before .before .args .x1) (c .before .before .before .args .y1) (c .before .before .before .args .x2) (c .before .before .before .args .y2) (c .before .before .before .args .width) (c .before .before .before .args .height) (c .before .before .before .fits .x1) (c .before .before .before .fits .y1) (c .before .before .before .fits .x2) (c .before .before .before .fits .y2) (c .before .before .clip-segment .result) _ (c .before .before .clip-segment .ensures) (c .enum-told2 .given .1) _ refl
+returns-2 c =
+    let o = c .before .before .before in
+    let a = o .args in
+    let f = o .fits in
+    let clip-segment = c .before .before .clip-segment in
+    left-is (a .x1) (a .y1) (a .x2) (a .y2) (a .width) (a .height) (f .x1) (f .y1) (f .x2) (f .y2) (clip-segment .result) _ (clip-segment .ensures) (c .enum-told2 .given .1) _ refl
 
 pub segment-left-spec : {M : Type 1} → statement M
 segment-left-spec =

@@ -20,11 +20,25 @@ beyond-requires-2 c κs = search needs
 
 returns-2 : tie.Need-returns-2
 unfolding angleFault
-returns-2 c = rw (told (negsuc 719) (pos 720) (c .before .before .before .before .args .start) _ false (c .before .before .before .before .fits .start) (c .before .before .before .beyond .ensures) (c .before .before .if1 .left), told (negsuc 719) (pos 720) (c .before .before .before .before .args .arc) _ true (c .before .before .before .before .fits .arc) (c .before .beyond2 .ensures) (c .if2 .taken)) refl
+returns-2 c =
+    let o = c .before .before .before .before in
+    let a = o .args in
+    rw (
+      told (negsuc 719) (pos 720) (a .start) _ false (o .fits .start) (c .before .before .before .beyond .ensures) (c .before .before .if1 .left),
+      told (negsuc 719) (pos 720)
+          (a .arc) _ true (o .fits .arc) (c .before .beyond2 .ensures) (c .if2 .taken),
+    ) refl
 
 returns-3 : tie.Need-returns-3
 unfolding angleFault
-returns-3 c = rw (told (negsuc 719) (pos 720) (c .before .before .before .before .args .start) _ false (c .before .before .before .before .fits .start) (c .before .before .before .beyond .ensures) (c .before .before .if1 .left), told (negsuc 719) (pos 720) (c .before .before .before .before .args .arc) _ false (c .before .before .before .before .fits .arc) (c .before .beyond2 .ensures) (c .if2 .left)) refl
+returns-3 c =
+    let o = c .before .before .before .before in
+    let a = o .args in
+    rw (
+      told (negsuc 719) (pos 720) (a .start) _ false (o .fits .start) (c .before .before .before .beyond .ensures) (c .before .before .if1 .left),
+      told (negsuc 719) (pos 720)
+          (a .arc) _ false (o .fits .arc) (c .before .beyond2 .ensures) (c .if2 .left),
+    ) refl
 
 pub angle-fault-spec : {M : Type 1} → statement M
 angle-fault-spec = tie.close (tie.spec beyond-requires returns beyond-requires-2 returns-2 returns-3)

@@ -21,8 +21,12 @@ or-else-requires c κs = search needs
 returns : tie.Need-returns
 unfolding arcFault
 returns c =
-    let e : c .before .before .angle-fault .result ≡ angleFault (c .before .before .before .args .start) (c .before .before .before .args .arc) = rw (toZ-ofZ w32 (c .before .before .before .args .start) (c .before .before .before .fits .start), toZ-ofZ w32 (c .before .before .before .args .arc) (c .before .before .before .fits .arc)) at (c .before .before .angle-fault .ensures) in
-    c .or-else .ensures ∙ ap₂ orElse e (shape-of (c .before .before .before .args .x) (c .before .before .before .args .y) (c .before .before .before .args .w) (c .before .before .before .args .h) _ (c .before .before .before .fits .x) (c .before .before .before .fits .y) (c .before .shape-fault .ensures))
+    let o = c .before .before .before in
+    let a = o .args in
+    let f = o .fits in
+    let angle-fault = c .before .before .angle-fault in
+    let e : angle-fault .result ≡ angleFault (a .start) (a .arc) = rw (toZ-ofZ w32 (a .start) (f .start), toZ-ofZ w32 (a .arc) (f .arc)) at (angle-fault .ensures) in
+    c .or-else .ensures ∙ ap₂ orElse e (shape-of (a .x) (a .y) (a .w) (a .h) _ (f .x) (f .y) (c .before .shape-fault .ensures))
 
 pub arc-fault-spec : {M : Type 1} → statement M
 arc-fault-spec = tie.close (tie.spec angle-fault-requires shape-fault-requires or-else-requires returns)

@@ -32,7 +32,11 @@ corners-in-requires : tie.Need-corners-in-requires
 corners-in-requires c κs = search needs
 
 returns : tie.Need-returns
-returns c = corners-are (c .before .before .before .args .x) (c .before .before .before .args .y) (c .before .before .before .args .w) (c .before .before .before .args .h) (c .before .before .before .args .aw) (c .before .before .before .args .ah) (c .before .before .before .fits .x) (c .before .before .before .fits .y) (c .before .before .before .pre .0) _ _ _ (c .before .before .radius .ensures) (c .before .radius2 .ensures) (c .corners-in .ensures)
+returns c =
+    let o = c .before .before .before in
+    let a = o .args in
+    corners-are (a .x) (a .y) (a .w) (a .h) (a .aw) (a .ah) (o .fits .x) (o .fits .y) (o .pre .0) _ _ _ (c .before .before .radius .ensures) (c .before .radius2 .ensures)
+    (c .corners-in .ensures)
 
 pub corners-of-spec : {M : Type 1} → statement M
 corners-of-spec =

@@ -28,14 +28,28 @@ enum-known-ink c = search needs
 
 pie-in-requires : tie.Need-pie-in-requires
 pie-in-requires c κs =
-    let s = start-sized (c .before .before .before .before .before .before .before .args .canvas) (c .before .before .before .before .before .before .before .args .bytes .now) (arcFault (c .before .before .before .before .before .before .before .args .x) (c .before .before .before .before .before .before .before .args .y) (c .before .before .before .before .before .before .before .args .w) (c .before .before .before .before .before .before .before .args .h) (c .before .before .before .before .before .before .before .args .start) (c .before .before .before .before .before .before .before .args .arc)) (c .before .before .before .before .before .before .before .args .color) _ _ (arc-of (c .before .before .before .before .before .before .before .args .x) (c .before .before .before .before .before .before .before .args .y) (c .before .before .before .before .before .before .before .args .w) (c .before .before .before .before .before .before .before .args .h) (c .before .before .before .before .before .before .before .args .start) (c .before .before .before .before .before .before .before .args .arc) _ (c .before .before .before .before .before .before .before .fits .x) (c .before .before .before .before .before .before .before .fits .y) (c .before .before .before .before .before .before .before .fits .start) (c .before .before .before .before .before .before .before .fits .arc) (c .before .before .before .before .before .arc-fault .ensures)) (c .before .before .before .before .begin .ensures) _ (c .before .before .ink .given .1) in
-    rw (toZ-ofZ w32 (c .before .before .before .before .before .before .before .args .x) (c .before .before .before .before .before .before .before .fits .x), toZ-ofZ w32 (c .before .before .before .before .before .before .before .args .y) (c .before .before .before .before .before .before .before .fits .y), toZ-ofZ w32 (c .before .before .before .before .before .before .before .args .start) (c .before .before .before .before .before .before .before .fits .start), toZ-ofZ w32 (c .before .before .before .before .before .before .before .args .arc) (c .before .before .before .before .before .before .before .fits .arc)) (
-      ready-few s refl (inks-few _ _ (pie-le (c .before .before .before .before .before .before .before .args .canvas) (c .before .before .before .before .before .before .before .args .x) (c .before .before .before .before .before .before .before .args .y) (c .before .before .before .before .before .before .before .args .w) (c .before .before .before .before .before .before .before .args .h) (c .before .before .before .before .before .before .before .args .start) (c .before .before .before .before .before .before .before .args .arc) (s .wide) (s .high))),
-      arc-known (c .before .before .before .before .before .before .before .args .x) (c .before .before .before .before .before .before .before .args .y) (c .before .before .before .before .before .before .before .args .w) (c .before .before .before .before .before .before .before .args .h) (c .before .before .before .before .before .before .before .args .start) (c .before .before .before .before .before .before .before .args .arc) (start-own (c .before .before .before .before .before .before .before .args .canvas) (c .before .before .before .before .before .before .before .args .bytes .now) (arcFault (c .before .before .before .before .before .before .before .args .x) (c .before .before .before .before .before .before .before .args .y) (c .before .before .before .before .before .before .before .args .w) (c .before .before .before .before .before .before .before .args .h) (c .before .before .before .before .before .before .before .args .start) (c .before .before .before .before .before .before .before .args .arc)) (c .before .before .before .before .before .before .before .args .color) _ _ (arc-of (c .before .before .before .before .before .before .before .args .x) (c .before .before .before .before .before .before .before .args .y) (c .before .before .before .before .before .before .before .args .w) (c .before .before .before .before .before .before .before .args .h) (c .before .before .before .before .before .before .before .args .start) (c .before .before .before .before .before .before .before .args .arc) _ (c .before .before .before .before .before .before .before .fits .x) (c .before .before .before .before .before .before .before .fits .y) (c .before .before .before .before .before .before .before .fits .start) (c .before .before .before .before .before .before .before .fits .arc) (c .before .before .before .before .before .arc-fault .ensures)) (c .before .before .before .before .begin .ensures) _ (c .before .before .ink .given .1)),
+    let o = c .before .before .before .before .before .before .before in
+    let a = o .args in
+    let f = o .fits in
+    let arc-fault = c .before .before .before .before .before .arc-fault in
+    let begin = c .before .before .before .before .begin in
+    let ink = c .before .before .ink in
+    let s = start-sized (a .canvas) (a .bytes .now) (arcFault (a .x) (a .y) (a .w) (a .h) (a .start) (a .arc)) (a .color) _ _
+    (arc-of (a .x) (a .y) (a .w) (a .h) (a .start) (a .arc) _ (f .x) (f .y) (f .start) (f .arc) (arc-fault .ensures)) (begin .ensures) _ (ink .given .1) in
+    rw (toZ-ofZ w32 (a .x) (f .x), toZ-ofZ w32 (a .y) (f .y), toZ-ofZ w32 (a .start) (f .start), toZ-ofZ w32 (a .arc) (f .arc)) (
+      ready-few s refl (inks-few _ _ (pie-le (a .canvas) (a .x) (a .y) (a .w) (a .h) (a .start) (a .arc) (s .wide) (s .high))),
+      arc-known (a .x) (a .y) (a .w) (a .h) (a .start) (a .arc) (start-own (a .canvas) (a .bytes .now) (arcFault (a .x) (a .y) (a .w) (a .h) (a .start) (a .arc)) (a .color) _ _
+          (arc-of (a .x) (a .y) (a .w) (a .h) (a .start) (a .arc) _ (f .x) (f .y) (f .start) (f .arc) (arc-fault .ensures)) (begin .ensures) _ (ink .given .1)),
     )
 
 returns : tie.Need-returns
-returns c = start-refuses (c .before .before .before .before .before .before .args .canvas) (c .before .before .before .before .before .before .args .bytes .now) (arcFault (c .before .before .before .before .before .before .args .x) (c .before .before .before .before .before .before .args .y) (c .before .before .before .before .before .before .args .w) (c .before .before .before .before .before .before .args .h) (c .before .before .before .before .before .before .args .start) (c .before .before .before .before .before .before .args .arc)) (c .before .before .before .before .before .before .args .color) _ _ (arc-of (c .before .before .before .before .before .before .args .x) (c .before .before .before .before .before .before .args .y) (c .before .before .before .before .before .before .args .w) (c .before .before .before .before .before .before .args .h) (c .before .before .before .before .before .before .args .start) (c .before .before .before .before .before .before .args .arc) _ (c .before .before .before .before .before .before .fits .x) (c .before .before .before .before .before .before .fits .y) (c .before .before .before .before .before .before .fits .start) (c .before .before .before .before .before .before .fits .arc) (c .before .before .before .before .arc-fault .ensures)) (c .before .before .before .begin .ensures) _ _ _ (c .before .r .given .1)
+returns c =
+    let o = c .before .before .before .before .before .before in
+    let a = o .args in
+    let f = o .fits in
+    start-refuses (a .canvas) (a .bytes .now) (arcFault (a .x) (a .y) (a .w) (a .h) (a .start) (a .arc)) (a .color) _ _
+    (arc-of (a .x) (a .y) (a .w) (a .h) (a .start) (a .arc) _ (f .x) (f .y) (f .start) (f .arc) (c .before .before .before .before .arc-fault .ensures))
+    (c .before .before .before .begin .ensures) _ _ _ (c .before .r .given .1)
 
 same-length : tie.Need-same-length
 same-length c = search needs
@@ -43,10 +57,21 @@ same-length c = search needs
 returns-2 : tie.Need-returns-2
 unfolding dots
 returns-2 c =
-    start-draws (c .before .before .before .before .before .before .before .before .before .before .args .canvas) (c .before .before .before .before .before .before .before .before .before .before .args .bytes .now) (arcFault (c .before .before .before .before .before .before .before .before .before .before .args .x) (c .before .before .before .before .before .before .before .before .before .before .args .y) (c .before .before .before .before .before .before .before .before .before .before .args .w) (c .before .before .before .before .before .before .before .before .before .before .args .h) (c .before .before .before .before .before .before .before .before .before .before .args .start) (c .before .before .before .before .before .before .before .before .before .before .args .arc)) (c .before .before .before .before .before .before .before .before .before .before .args .color) _ _ (arc-of (c .before .before .before .before .before .before .before .before .before .before .args .x) (c .before .before .before .before .before .before .before .before .before .before .args .y) (c .before .before .before .before .before .before .before .before .before .before .args .w) (c .before .before .before .before .before .before .before .before .before .before .args .h) (c .before .before .before .before .before .before .before .before .before .before .args .start) (c .before .before .before .before .before .before .before .before .before .before .args .arc) _ (c .before .before .before .before .before .before .before .before .before .before .fits .x) (c .before .before .before .before .before .before .before .before .before .before .fits .y) (c .before .before .before .before .before .before .before .before .before .before .fits .start) (c .before .before .before .before .before .before .before .before .before .before .fits .arc) (c .before .before .before .before .before .before .before .before .arc-fault .ensures)) (c .before .before .before .before .before .before .before .begin .ensures) _ (c .before .before .before .before .before .ink .given .1) (c .before .before .before .before .before .before .before .before .before .before .args .clip) (pie (c .before .before .before .before .before .before .before .before .before .before .args .canvas) (c .before .before .before .before .before .before .before .before .before .before .args .x) (c .before .before .before .before .before .before .before .before .before .before .args .y) (c .before .before .before .before .before .before .before .before .before .before .args .w) (c .before .before .before .before .before .before .before .before .before .before .args .h) (c .before .before .before .before .before .before .before .before .before .before .args .start) (c .before .before .before .before .before .before .before .before .before .before .args .arc)) _ _
+    let o = c .before .before .before .before .before .before .before .before .before .before in
+    let f = o .fits in
+    start-draws (o .args .canvas) (o .args .bytes .now) (arcFault (o .args .x) (o .args .y) (o .args .w) (o .args .h) (o .args .start) (o .args .arc)) (o .args .color) _ _
+    (arc-of (o .args .x) (o .args .y) (o .args .w) (o .args .h) (o .args .start) (o .args .arc) _ (f .x) (f .y) (f .start) (f .arc)
+    (c .before .before .before .before .before .before .before .before .arc-fault .ensures)) (c .before .before .before .before .before .before .before .begin .ensures) _
+    (c .before .before .before .before .before .ink .given .1) (o .args .clip) (pie (o .args .canvas) (o .args .x) (o .args .y) (o .args .w) (o .args .h) (o .args .start) (o .args .arc)) _ _
     (record { byte = λ i. c .before .before .before .before .before .before .before .before .before .slice-known .given i .fits })
-    (record { a = c .before .before .before .before .before .before .before .before .before .before .good .1 .1 .1 .1 .1 .1 .1 .1 .0 .1 .1 .0 .1; r = c .before .before .before .before .before .before .before .before .before .before .good .1 .1 .1 .1 .1 .1 .1 .1 .0 .1 .1 .1 .0 .1; g = c .before .before .before .before .before .before .before .before .before .before .good .1 .1 .1 .1 .1 .1 .1 .1 .0 .1 .1 .1 .1 .0 .1; b = c .before .before .before .before .before .before .before .before .before .before .good .1 .1 .1 .1 .1 .1 .1 .1 .0 .1 .1 .1 .1 .1 .0 .1 })
-    (rw (toZ-ofZ w32 (c .before .before .before .before .before .before .before .before .before .before .args .x) (c .before .before .before .before .before .before .before .before .before .before .fits .x), toZ-ofZ w32 (c .before .before .before .before .before .before .before .before .before .before .args .y) (c .before .before .before .before .before .before .before .before .before .before .fits .y), toZ-ofZ w32 (c .before .before .before .before .before .before .before .before .before .before .args .start) (c .before .before .before .before .before .before .before .before .before .before .fits .start), toZ-ofZ w32 (c .before .before .before .before .before .before .before .before .before .before .args .arc) (c .before .before .before .before .before .before .before .before .before .before .fits .arc)) at (c .before .before .pie-in .ensures))
+    (record {
+      a = o .good .1 .1 .1 .1 .1 .1 .1 .1 .0 .1 .1 .0 .1;
+      r = o .good .1 .1 .1 .1 .1 .1 .1 .1 .0 .1 .1 .1 .0 .1;
+      g = o .good .1 .1 .1 .1 .1 .1 .1 .1 .0 .1 .1 .1 .1 .0 .1;
+      b = o .good .1 .1 .1 .1 .1 .1 .1 .1 .0 .1 .1 .1 .1 .1 .0 .1;
+    })
+    (rw (toZ-ofZ w32 (o .args .x) (f .x), toZ-ofZ w32 (o .args .y) (f .y), toZ-ofZ w32 (o .args .start) (f .start), toZ-ofZ w32 (o .args .arc) (f .arc)) at
+    (c .before .before .pie-in .ensures))
 
 pub fill-arc-spec : {M : Type 1} → statement M
 fill-arc-spec =

@@ -28,14 +28,28 @@ enum-known-ink c = search needs
 
 round-in-requires : tie.Need-round-in-requires
 round-in-requires c κs =
-    let s = start-sized (c .before .before .before .before .before .before .before .args .canvas) (c .before .before .before .before .before .before .before .args .bytes .now) (shapeFault (c .before .before .before .before .before .before .before .args .x) (c .before .before .before .before .before .before .before .args .y) (c .before .before .before .before .before .before .before .args .w) (c .before .before .before .before .before .before .before .args .h)) (c .before .before .before .before .before .before .before .args .color) _ _ (shape-of (c .before .before .before .before .before .before .before .args .x) (c .before .before .before .before .before .before .before .args .y) (c .before .before .before .before .before .before .before .args .w) (c .before .before .before .before .before .before .before .args .h) _ (c .before .before .before .before .before .before .before .fits .x) (c .before .before .before .before .before .before .before .fits .y) (c .before .before .before .before .before .shape-fault .ensures)) (c .before .before .before .before .begin .ensures) _ (c .before .before .ink .given .1) in
-    rw (toZ-ofZ w32 (c .before .before .before .before .before .before .before .args .x) (c .before .before .before .before .before .before .before .fits .x), toZ-ofZ w32 (c .before .before .before .before .before .before .before .args .y) (c .before .before .before .before .before .before .before .fits .y)) (
-      ready-few s refl (inks-few _ _ (round-le (c .before .before .before .before .before .before .before .args .canvas) (c .before .before .before .before .before .before .before .args .x) (c .before .before .before .before .before .before .before .args .y) (c .before .before .before .before .before .before .before .args .w) (c .before .before .before .before .before .before .before .args .h) (c .before .before .before .before .before .before .before .args .aw) (c .before .before .before .before .before .before .before .args .ah) (s .wide) (s .high))),
-      shape-known (c .before .before .before .before .before .before .before .args .x) (c .before .before .before .before .before .before .before .args .y) (c .before .before .before .before .before .before .before .args .w) (c .before .before .before .before .before .before .before .args .h) (start-own (c .before .before .before .before .before .before .before .args .canvas) (c .before .before .before .before .before .before .before .args .bytes .now) (shapeFault (c .before .before .before .before .before .before .before .args .x) (c .before .before .before .before .before .before .before .args .y) (c .before .before .before .before .before .before .before .args .w) (c .before .before .before .before .before .before .before .args .h)) (c .before .before .before .before .before .before .before .args .color) _ _ (shape-of (c .before .before .before .before .before .before .before .args .x) (c .before .before .before .before .before .before .before .args .y) (c .before .before .before .before .before .before .before .args .w) (c .before .before .before .before .before .before .before .args .h) _ (c .before .before .before .before .before .before .before .fits .x) (c .before .before .before .before .before .before .before .fits .y) (c .before .before .before .before .before .shape-fault .ensures)) (c .before .before .before .before .begin .ensures) _ (c .before .before .ink .given .1)),
+    let o = c .before .before .before .before .before .before .before in
+    let a = o .args in
+    let f = o .fits in
+    let shape-fault = c .before .before .before .before .before .shape-fault in
+    let begin = c .before .before .before .before .begin in
+    let ink = c .before .before .ink in
+    let s = start-sized (a .canvas) (a .bytes .now) (shapeFault (a .x) (a .y) (a .w) (a .h)) (a .color) _ _ (shape-of (a .x) (a .y) (a .w) (a .h) _ (f .x) (f .y) (shape-fault .ensures))
+    (begin .ensures) _ (ink .given .1) in
+    rw (toZ-ofZ w32 (a .x) (f .x), toZ-ofZ w32 (a .y) (f .y)) (
+      ready-few s refl (inks-few _ _ (round-le (a .canvas) (a .x) (a .y) (a .w) (a .h) (a .aw) (a .ah) (s .wide) (s .high))),
+      shape-known (a .x) (a .y) (a .w) (a .h)
+          (start-own (a .canvas) (a .bytes .now) (shapeFault (a .x) (a .y) (a .w) (a .h)) (a .color) _ _ (shape-of (a .x) (a .y) (a .w) (a .h) _ (f .x) (f .y) (shape-fault .ensures))
+          (begin .ensures) _ (ink .given .1)),
     )
 
 returns : tie.Need-returns
-returns c = start-refuses (c .before .before .before .before .before .before .args .canvas) (c .before .before .before .before .before .before .args .bytes .now) (shapeFault (c .before .before .before .before .before .before .args .x) (c .before .before .before .before .before .before .args .y) (c .before .before .before .before .before .before .args .w) (c .before .before .before .before .before .before .args .h)) (c .before .before .before .before .before .before .args .color) _ _ (shape-of (c .before .before .before .before .before .before .args .x) (c .before .before .before .before .before .before .args .y) (c .before .before .before .before .before .before .args .w) (c .before .before .before .before .before .before .args .h) _ (c .before .before .before .before .before .before .fits .x) (c .before .before .before .before .before .before .fits .y) (c .before .before .before .before .shape-fault .ensures)) (c .before .before .before .begin .ensures) _ _ _ (c .before .r .given .1)
+returns c =
+    let o = c .before .before .before .before .before .before in
+    let a = o .args in
+    start-refuses (a .canvas) (a .bytes .now) (shapeFault (a .x) (a .y) (a .w) (a .h)) (a .color) _ _
+    (shape-of (a .x) (a .y) (a .w) (a .h) _ (o .fits .x) (o .fits .y) (c .before .before .before .before .shape-fault .ensures)) (c .before .before .before .begin .ensures) _ _ _
+    (c .before .r .given .1)
 
 same-length : tie.Need-same-length
 same-length c = search needs
@@ -43,10 +57,20 @@ same-length c = search needs
 returns-2 : tie.Need-returns-2
 unfolding dots
 returns-2 c =
-    start-draws (c .before .before .before .before .before .before .before .before .before .before .args .canvas) (c .before .before .before .before .before .before .before .before .before .before .args .bytes .now) (shapeFault (c .before .before .before .before .before .before .before .before .before .before .args .x) (c .before .before .before .before .before .before .before .before .before .before .args .y) (c .before .before .before .before .before .before .before .before .before .before .args .w) (c .before .before .before .before .before .before .before .before .before .before .args .h)) (c .before .before .before .before .before .before .before .before .before .before .args .color) _ _ (shape-of (c .before .before .before .before .before .before .before .before .before .before .args .x) (c .before .before .before .before .before .before .before .before .before .before .args .y) (c .before .before .before .before .before .before .before .before .before .before .args .w) (c .before .before .before .before .before .before .before .before .before .before .args .h) _ (c .before .before .before .before .before .before .before .before .before .before .fits .x) (c .before .before .before .before .before .before .before .before .before .before .fits .y) (c .before .before .before .before .before .before .before .before .shape-fault .ensures)) (c .before .before .before .before .before .before .before .begin .ensures) _ (c .before .before .before .before .before .ink .given .1) (c .before .before .before .before .before .before .before .before .before .before .args .clip) (roundFill (c .before .before .before .before .before .before .before .before .before .before .args .canvas) (c .before .before .before .before .before .before .before .before .before .before .args .x) (c .before .before .before .before .before .before .before .before .before .before .args .y) (c .before .before .before .before .before .before .before .before .before .before .args .w) (c .before .before .before .before .before .before .before .before .before .before .args .h) (c .before .before .before .before .before .before .before .before .before .before .args .aw) (c .before .before .before .before .before .before .before .before .before .before .args .ah)) _ _
+    let o = c .before .before .before .before .before .before .before .before .before .before in
+    let f = o .fits in
+    start-draws (o .args .canvas) (o .args .bytes .now) (shapeFault (o .args .x) (o .args .y) (o .args .w) (o .args .h)) (o .args .color) _ _
+    (shape-of (o .args .x) (o .args .y) (o .args .w) (o .args .h) _ (f .x) (f .y) (c .before .before .before .before .before .before .before .before .shape-fault .ensures))
+    (c .before .before .before .before .before .before .before .begin .ensures) _ (c .before .before .before .before .before .ink .given .1) (o .args .clip)
+    (roundFill (o .args .canvas) (o .args .x) (o .args .y) (o .args .w) (o .args .h) (o .args .aw) (o .args .ah)) _ _
     (record { byte = λ i. c .before .before .before .before .before .before .before .before .before .slice-known .given i .fits })
-    (record { a = c .before .before .before .before .before .before .before .before .before .before .good .1 .1 .1 .1 .1 .1 .1 .1 .0 .1 .1 .0 .1; r = c .before .before .before .before .before .before .before .before .before .before .good .1 .1 .1 .1 .1 .1 .1 .1 .0 .1 .1 .1 .0 .1; g = c .before .before .before .before .before .before .before .before .before .before .good .1 .1 .1 .1 .1 .1 .1 .1 .0 .1 .1 .1 .1 .0 .1; b = c .before .before .before .before .before .before .before .before .before .before .good .1 .1 .1 .1 .1 .1 .1 .1 .0 .1 .1 .1 .1 .1 .0 .1 })
-    (rw (toZ-ofZ w32 (c .before .before .before .before .before .before .before .before .before .before .args .x) (c .before .before .before .before .before .before .before .before .before .before .fits .x), toZ-ofZ w32 (c .before .before .before .before .before .before .before .before .before .before .args .y) (c .before .before .before .before .before .before .before .before .before .before .fits .y)) at (c .before .before .round-in .ensures))
+    (record {
+      a = o .good .1 .1 .1 .1 .1 .1 .1 .1 .0 .1 .1 .0 .1;
+      r = o .good .1 .1 .1 .1 .1 .1 .1 .1 .0 .1 .1 .1 .0 .1;
+      g = o .good .1 .1 .1 .1 .1 .1 .1 .1 .0 .1 .1 .1 .1 .0 .1;
+      b = o .good .1 .1 .1 .1 .1 .1 .1 .1 .0 .1 .1 .1 .1 .1 .0 .1;
+    })
+    (rw (toZ-ofZ w32 (o .args .x) (f .x), toZ-ofZ w32 (o .args .y) (f .y)) at (c .before .before .round-in .ensures))
 
 pub fill-round-rect-spec : {M : Type 1} → statement M
 fill-round-rect-spec =

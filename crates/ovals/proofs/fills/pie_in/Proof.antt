@@ -1,16 +1,26 @@
--- The pie is a sieve, and its test is made at pixels of the box.
+-- A box without columns or rows has no pie; else the pie is a region.
 use native.Mathlib.Omega.{arith}
+use mathlib.Core.Path.{sym, _∙_}
 use mir.Syntax.{w32}
 use mir.ValLaws.{toZ-ofZ}
+use Rattle.words.specs.Ink.{inked}
 use Rattle.canvas.proofs.span.Lifts.{lowers, lift-lt}
+use Rattle.canvas.proofs.boxes.Boxes.{some-sides}
 use Rattle.canvas.proofs.boxes.Chains.{did-same, ready-same}
-use Rattle.ovals.proofs.fills.Sieves.{pie-sieve, pie-asked}
+use Rattle.ovals.proofs.fills.Sieves.{pie-none, did-nothing}
+use Rattle.ovals.proofs.runs.Regions.{pie-region}
+use Rattle.ovals.proofs.runs.Asked.{asks-pie}
 use borrow.Author.Needs.{needs}
 use Rattle.ovals.proofs.fills.pie_in.Statement.{statement}
 use Rattle.ovals.proofs.fills.pie_in.Tie as tie
 
-table-requires : tie.Need-table-requires
-table-requires c κs = search needs
+is-empty-requires : tie.Need-is-empty-requires
+is-empty-requires c κs = search needs
+
+returns : tie.Need-returns
+returns c =
+    let a = c .before .before .before .args in
+    did-nothing (inked (a .ink)) _ (pie-none (a .canvas) (a .x) (a .y) (a .w) (a .h) (a .start) (a .arc) (sym (c .before .is-empty .ensures) ∙ c .if1 .taken))
 
 pie-in-requires : tie.Need-pie-in-requires
 pie-in-requires c κs = search needs
@@ -21,14 +31,37 @@ lift-requires c κs = search needs
 lift-requires-2 : tie.Need-lift-requires-2
 lift-requires-2 c κs = search needs
 
-sift-in-requires : tie.Need-sift-in-requires
-sift-in-requires c κs = (ready-same _ _ _ (pie-sieve (c .before .before .before .before .before .before .before .args .canvas) (c .before .before .before .before .before .before .before .args .x) (c .before .before .before .before .before .before .before .args .y) (c .before .before .before .before .before .before .before .args .w) (c .before .before .before .before .before .before .before .args .h) (c .before .before .before .before .before .before .before .args .start) (c .before .before .before .before .before .before .before .args .arc) _ _ _ (rw (toZ-ofZ w32 (c .before .before .before .before .before .before .before .args .x) (c .before .before .before .before .before .before .before .fits .x), toZ-ofZ w32 (c .before .before .before .before .before .before .before .args .y) (c .before .before .before .before .before .before .before .fits .y), toZ-ofZ w32 (c .before .before .before .before .before .before .before .args .start) (c .before .before .before .before .before .before .before .fits .start), toZ-ofZ w32 (c .before .before .before .before .before .before .before .args .arc) (c .before .before .before .before .before .before .before .fits .arc)) at (c .before .before .before .before .pie-in .ensures)) (lowers (c .before .before .before .before .before .before .before .args .x) _ (c .before .before .before .before .before .before .before .fits .x) (c .before .before .before .lift .ensures)) (lowers (c .before .before .before .before .before .before .before .args .y) _ (c .before .before .before .before .before .before .before .fits .y) (c .before .before .lift2 .ensures))) (c .before .before .before .before .before .before .before .pre .0), (omega (arith, lift-lt (c .before .before .before .before .before .before .before .args .x) _ (c .before .before .before .before .before .before .before .fits .x) (c .before .before .before .lift .ensures)), (omega (arith, lift-lt (c .before .before .before .before .before .before .before .args .y) _ (c .before .before .before .before .before .before .before .fits .y) (c .before .before .lift2 .ensures)), pie-asked (c .before .before .before .before .before .before .before .args .canvas) (c .before .before .before .before .before .before .before .args .x) (c .before .before .before .before .before .before .before .args .y) (c .before .before .before .before .before .before .before .args .w) (c .before .before .before .before .before .before .before .args .h) (c .before .before .before .before .before .before .before .args .start) (c .before .before .before .before .before .before .before .args .arc) _ _ _ (rw (toZ-ofZ w32 (c .before .before .before .before .before .before .before .args .x) (c .before .before .before .before .before .before .before .fits .x), toZ-ofZ w32 (c .before .before .before .before .before .before .before .args .y) (c .before .before .before .before .before .before .before .fits .y), toZ-ofZ w32 (c .before .before .before .before .before .before .before .args .start) (c .before .before .before .before .before .before .before .fits .start), toZ-ofZ w32 (c .before .before .before .before .before .before .before .args .arc) (c .before .before .before .before .before .before .before .fits .arc)) at (c .before .before .before .before .pie-in .ensures)) (lowers (c .before .before .before .before .before .before .before .args .x) _ (c .before .before .before .before .before .before .before .fits .x) (c .before .before .before .lift .ensures)) (lowers (c .before .before .before .before .before .before .before .args .y) _ (c .before .before .before .before .before .before .before .fits .y) (c .before .before .lift2 .ensures)) (c .before .before .before .before .before .before .before .pre .1) _ (c .before .before .before .before .before .table .ensures))))
+sector-in-requires : tie.Need-sector-in-requires
+sector-in-requires c κs =
+    let o = c .before .before .before .before .before .before .before in
+    let a = o .args in
+    let f = o .fits in
+    let x = lowers (a .x) _ (f .x) (c .before .before .lift .ensures) in
+    let y = lowers (a .y) _ (f .y) (c .before .lift2 .ensures) in
+    let k = rw (toZ-ofZ w32 (a .x) (f .x), toZ-ofZ w32 (a .y) (f .y), toZ-ofZ w32 (a .start) (f .start), toZ-ofZ w32 (a .arc) (f .arc)) at (c .before .before .before .pie-in .ensures) in
+    let d = sym (c .before .before .before .before .before .is-empty .ensures) ∙ c .before .before .before .before .if1 .left in
+    let e = pie-region (a .canvas) (a .x) (a .y) (a .w) (a .h) _ _ (o .pre .0 .sized .wide) (o .pre .0 .sized .high) (o .pre .1) x y (a .start) (a .arc) _ k d in
+    let m = lift-lt (a .x) _ (f .x) (c .before .before .lift .ensures) in
+    let n = lift-lt (a .y) _ (f .y) (c .before .lift2 .ensures) in
+    let s = some-sides (a .w) (a .h) d in
+    let z = asks-pie _ (a .x) (a .y) (a .w) (a .h) (a .start) (a .arc) _ _ k (o .pre .1) x y in
+    (ready-same _ _ _ e (o .pre .0), (omega (arith, m), (omega (arith, n), (s .0, (s .1, (o .pre .1 .wide, (o .pre .1 .high, z)))))))
 
 same-length : tie.Need-same-length
 same-length c = search needs
 
-returns : tie.Need-returns
-returns c = did-same _ _ _ (pie-sieve (c .before .before .before .before .before .before .before .before .before .before .args .canvas) (c .before .before .before .before .before .before .before .before .before .before .args .x) (c .before .before .before .before .before .before .before .before .before .before .args .y) (c .before .before .before .before .before .before .before .before .before .before .args .w) (c .before .before .before .before .before .before .before .before .before .before .args .h) (c .before .before .before .before .before .before .before .before .before .before .args .start) (c .before .before .before .before .before .before .before .before .before .before .args .arc) _ _ _ (rw (toZ-ofZ w32 (c .before .before .before .before .before .before .before .before .before .before .args .x) (c .before .before .before .before .before .before .before .before .before .before .fits .x), toZ-ofZ w32 (c .before .before .before .before .before .before .before .before .before .before .args .y) (c .before .before .before .before .before .before .before .before .before .before .fits .y), toZ-ofZ w32 (c .before .before .before .before .before .before .before .before .before .before .args .start) (c .before .before .before .before .before .before .before .before .before .before .fits .start), toZ-ofZ w32 (c .before .before .before .before .before .before .before .before .before .before .args .arc) (c .before .before .before .before .before .before .before .before .before .before .fits .arc)) at (c .before .before .before .before .before .before .before .pie-in .ensures)) (lowers (c .before .before .before .before .before .before .before .before .before .before .args .x) _ (c .before .before .before .before .before .before .before .before .before .before .fits .x) (c .before .before .before .before .before .before .lift .ensures)) (lowers (c .before .before .before .before .before .before .before .before .before .before .args .y) _ (c .before .before .before .before .before .before .before .before .before .before .fits .y) (c .before .before .before .before .before .lift2 .ensures))) (c .before .before .sift-in .ensures)
+returns-2 : tie.Need-returns-2
+returns-2 c =
+    let o = c .before .before .before .before .before .before .before .before .before .before in
+    let a = o .args in
+    let f = o .fits in
+    let x = lowers (a .x) _ (f .x) (c .before .before .before .before .before .lift .ensures) in
+    let y = lowers (a .y) _ (f .y) (c .before .before .before .before .lift2 .ensures) in
+    let k = rw (toZ-ofZ w32 (a .x) (f .x), toZ-ofZ w32 (a .y) (f .y), toZ-ofZ w32 (a .start) (f .start), toZ-ofZ w32 (a .arc) (f .arc)) at
+    (c .before .before .before .before .before .before .pie-in .ensures) in
+    let d = sym (c .before .before .before .before .before .before .before .before .is-empty .ensures) ∙ c .before .before .before .before .before .before .before .if1 .left in
+    let e = pie-region (a .canvas) (a .x) (a .y) (a .w) (a .h) _ _ (o .pre .0 .sized .wide) (o .pre .0 .sized .high) (o .pre .1) x y (a .start) (a .arc) _ k d in
+    did-same _ _ _ e (c .before .before .sector-in .ensures)
 
 pub pie-in-spec : {M : Type 1} → statement M
-pie-in-spec = tie.close (tie.spec table-requires pie-in-requires lift-requires lift-requires-2 sift-in-requires same-length returns)
+pie-in-spec = tie.close (tie.spec is-empty-requires returns pie-in-requires lift-requires lift-requires-2 sector-in-requires same-length returns-2)

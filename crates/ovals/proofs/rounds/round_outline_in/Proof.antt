@@ -27,25 +27,71 @@ is-plain-requires : tie.Need-is-plain-requires
 is-plain-requires c κs = search needs
 
 outline-in-requires : tie.Need-outline-in-requires
-outline-in-requires c κs = (ready-few (c .before .before .before .before .before .before .pre .0) (c .before .before .before .before .before .before .pre .1 .0) (inks-few (inked (c .before .before .before .before .before .before .args .ink)) _ (outline-le (c .before .before .before .before .before .before .args .canvas) _ _ _ _ (c .before .before .before .before .before .before .pre .0 .wide) (c .before .before .before .before .before .before .pre .0 .high))), (omega (arith, lift-lt (c .before .before .before .before .before .before .args .x) _ (c .before .before .before .before .before .before .fits .x) (c .before .before .before .before .lift .ensures)), (omega (arith, lift-lt (c .before .before .before .before .before .before .args .y) _ (c .before .before .before .before .before .before .fits .y) (c .before .before .before .lift2 .ensures)), c .before .before .before .before .before .before .pre .1 .1 .0)))
+outline-in-requires c κs =
+    let o = c .before .before .before .before .before .before in
+    let a = o .args in
+    let p = o .pre in (
+      ready-few (p .0) (p .1 .0) (inks-few (inked (a .ink)) _ (outline-le (a .canvas) _ _ _ _ (p .0 .wide) (p .0 .high))),
+      (
+        omega (arith, lift-lt (a .x) _ (o .fits .x) (c .before .before .before .before .lift .ensures)),
+        (omega (arith, lift-lt (a .y) _ (o .fits .y) (c .before .before .before .lift2 .ensures)), p .1 .1 .0),
+      ),
+    )
 
 same-length : tie.Need-same-length
 same-length c = search needs
 
 returns : tie.Need-returns
-returns c = did-same (inked (c .before .before .before .before .before .before .before .before .before .args .ink)) _ _ (outline-plain (c .before .before .before .before .before .before .before .before .before .args .canvas) (c .before .before .before .before .before .before .before .before .before .args .x) (c .before .before .before .before .before .before .before .before .before .args .y) (c .before .before .before .before .before .before .before .before .before .args .w) (c .before .before .before .before .before .before .before .before .before .args .h) (c .before .before .before .before .before .before .before .before .before .args .aw) (c .before .before .before .before .before .before .before .before .before .args .ah) _ _ (lowers (c .before .before .before .before .before .before .before .before .before .args .x) _ (c .before .before .before .before .before .before .before .before .before .fits .x) (c .before .before .before .before .before .before .before .lift .ensures)) (lowers (c .before .before .before .before .before .before .before .before .before .args .y) _ (c .before .before .before .before .before .before .before .before .before .fits .y) (c .before .before .before .before .before .before .lift2 .ensures)) (sym (c .before .before .before .before .before .is-plain .ensures) ∙ c .before .before .before .before .if1 .taken)) (c .before .before .outline-in .ensures)
+returns c =
+    let o = c .before .before .before .before .before .before .before .before .before in
+    let a = o .args in
+    did-same (inked (a .ink)) _ _
+    (outline-plain (a .canvas) (a .x) (a .y) (a .w) (a .h) (a .aw) (a .ah) _ _ (lowers (a .x) _ (o .fits .x) (c .before .before .before .before .before .before .before .lift .ensures))
+    (lowers (a .y) _ (o .fits .y) (c .before .before .before .before .before .before .lift2 .ensures))
+    (sym (c .before .before .before .before .before .is-plain .ensures) ∙ c .before .before .before .before .if1 .taken)) (c .before .before .outline-in .ensures)
 
 corners-of-requires : tie.Need-corners-of-requires
-corners-of-requires c κs = (rw (toZ-ofZ w32 (c .before .before .before .before .before .args .x) (c .before .before .before .before .before .fits .x), toZ-ofZ w32 (c .before .before .before .before .before .args .y) (c .before .before .before .before .before .fits .y)) (c .before .before .before .before .before .pre .1 .1 .1), some-sides (c .before .before .before .before .before .args .w) (c .before .before .before .before .before .args .h) ((neither (eqb (c .before .before .before .before .before .args .w) 0 || eqb (c .before .before .before .before .before .args .h) 0) (eqb (c .before .before .before .before .before .args .aw) 0 || eqb (c .before .before .before .before .before .args .ah) 0) (sym (c .before .is-plain .ensures) ∙ c .if1 .left)) .0))
+corners-of-requires c κs =
+    let o = c .before .before .before .before .before in
+    let a = o .args in (
+      rw (toZ-ofZ w32 (a .x) (o .fits .x), toZ-ofZ w32 (a .y) (o .fits .y)) (o .pre .1 .1 .1),
+      some-sides (a .w) (a .h)
+          ((neither (eqb (a .w) 0 || eqb (a .h) 0) (eqb (a .aw) 0 || eqb (a .ah) 0) (sym (c .before .is-plain .ensures) ∙ c .if1 .left)) .0),
+    )
 
 rim-in-requires : tie.Need-rim-in-requires
-rim-in-requires c κs = (c .before .before .before .before .before .before .before .pre .0, (c .before .before .before .before .before .before .before .pre .1 .0, (omega (arith, lift-lt (c .before .before .before .before .before .before .before .args .x) _ (c .before .before .before .before .before .before .before .fits .x) (c .before .before .before .before .before .lift .ensures)), (omega (arith, lift-lt (c .before .before .before .before .before .before .before .args .y) _ (c .before .before .before .before .before .before .before .fits .y) (c .before .before .before .before .lift2 .ensures)), some-sides (c .before .before .before .before .before .before .before .args .w) (c .before .before .before .before .before .before .before .args .h) ((neither (eqb (c .before .before .before .before .before .before .before .args .w) 0 || eqb (c .before .before .before .before .before .before .before .args .h) 0) (eqb (c .before .before .before .before .before .before .before .args .aw) 0 || eqb (c .before .before .before .before .before .before .before .args .ah) 0) (sym (c .before .before .before .is-plain .ensures) ∙ c .before .before .if1 .left)) .0)))))
+rim-in-requires c κs =
+    let o = c .before .before .before .before .before .before .before in
+    let a = o .args in (
+      o .pre .0,
+      (
+        o .pre .1 .0,
+        (
+          omega (arith, lift-lt (a .x) _ (o .fits .x) (c .before .before .before .before .before .lift .ensures)),
+          (
+            omega (arith, lift-lt (a .y) _ (o .fits .y) (c .before .before .before .before .lift2 .ensures)),
+            some-sides (a .w) (a .h)
+                ((neither (eqb (a .w) 0 || eqb (a .h) 0) (eqb (a .aw) 0 || eqb (a .ah) 0) (sym (c .before .before .before .is-plain .ensures) ∙ c .before .before .if1 .left)) .0),
+          ),
+        ),
+      ),
+    )
 
 same-length-2 : tie.Need-same-length-2
 same-length-2 c = search needs
 
 returns-2 : tie.Need-returns-2
-returns-2 c = did-same (inked (c .before .before .before .before .before .before .before .before .before .before .args .ink)) _ _ (outline-round (c .before .before .before .before .before .before .before .before .before .before .args .canvas) (c .before .before .before .before .before .before .before .before .before .before .args .x) (c .before .before .before .before .before .before .before .before .before .before .args .y) (c .before .before .before .before .before .before .before .before .before .before .args .w) (c .before .before .before .before .before .before .before .before .before .before .args .h) (c .before .before .before .before .before .before .before .before .before .before .args .aw) (c .before .before .before .before .before .before .before .before .before .before .args .ah) _ _ (lowers (c .before .before .before .before .before .before .before .before .before .before .args .x) _ (c .before .before .before .before .before .before .before .before .before .before .fits .x) (c .before .before .before .before .before .before .before .before .lift .ensures)) (lowers (c .before .before .before .before .before .before .before .before .before .before .args .y) _ (c .before .before .before .before .before .before .before .before .before .before .fits .y) (c .before .before .before .before .before .before .before .lift2 .ensures)) (c .before .before .before .before .corners-of .result) (rw (toZ-ofZ w32 (c .before .before .before .before .before .before .before .before .before .before .args .x) (c .before .before .before .before .before .before .before .before .before .before .fits .x), toZ-ofZ w32 (c .before .before .before .before .before .before .before .before .before .before .args .y) (c .before .before .before .before .before .before .before .before .before .before .fits .y)) at (c .before .before .before .before .corners-of .ensures)) (sym (c .before .before .before .before .before .before .is-plain .ensures) ∙ c .before .before .before .before .before .if1 .left)) (c .before .before .rim-in .ensures)
+returns-2 c =
+    let o = c .before .before .before .before .before .before .before .before .before .before in
+    let a = o .args in
+    let f = o .fits in
+    let corners-of = c .before .before .before .before .corners-of in
+    did-same (inked (a .ink)) _ _
+    (outline-round (a .canvas) (a .x) (a .y) (a .w) (a .h) (a .aw) (a .ah) _ _ (lowers (a .x) _ (f .x) (c .before .before .before .before .before .before .before .before .lift .ensures))
+    (lowers (a .y) _ (f .y) (c .before .before .before .before .before .before .before .lift2 .ensures)) (corners-of .result)
+    (rw (toZ-ofZ w32 (a .x) (f .x), toZ-ofZ w32 (a .y) (f .y)) at (corners-of .ensures))
+    (sym (c .before .before .before .before .before .before .is-plain .ensures) ∙ c .before .before .before .before .before .if1 .left)) (c .before .before .rim-in .ensures)
 
 pub round-outline-in-spec : {M : Type 1} → statement M
-round-outline-in-spec = tie.close (tie.spec lift-requires lift-requires-2 is-plain-requires outline-in-requires same-length returns corners-of-requires rim-in-requires same-length-2 returns-2)
+round-outline-in-spec = tie.close
+    (tie.spec lift-requires lift-requires-2 is-plain-requires outline-in-requires same-length returns corners-of-requires rim-in-requires same-length-2 returns-2)

@@ -12,7 +12,9 @@ is-empty-requires : tie.Need-is-empty-requires
 is-empty-requires c κs = search needs
 
 returns : tie.Need-returns
-returns c = did-nothing (inked (c .before .before .before .args .ink)) _ (arc-none (c .before .before .before .args .canvas) (c .before .before .before .args .x) (c .before .before .before .args .y) (c .before .before .before .args .w) (c .before .before .before .args .h) (c .before .before .before .args .start) (c .before .before .before .args .sweep) (sym (c .before .is-empty .ensures) ∙ c .if1 .taken))
+returns c =
+    let a = c .before .before .before .args in
+    did-nothing (inked (a .ink)) _ (arc-none (a .canvas) (a .x) (a .y) (a .w) (a .h) (a .start) (a .sweep) (sym (c .before .is-empty .ensures) ∙ c .if1 .taken))
 
 oval-in-requires : tie.Need-oval-in-requires
 oval-in-requires c κs = search needs
@@ -36,7 +38,17 @@ same-length : tie.Need-same-length
 same-length c = search needs
 
 returns-2 : tie.Need-returns-2
-returns-2 c = did-same (inked (c .before .before .before .before .before .before .before .before .before .before .before .before .args .ink)) _ _ (arc-stroke (c .before .before .before .before .before .before .before .before .before .before .before .before .args .canvas) (c .before .before .before .before .before .before .before .before .before .before .before .before .args .x) (c .before .before .before .before .before .before .before .before .before .before .before .before .args .y) (c .before .before .before .before .before .before .before .before .before .before .before .before .args .w) (c .before .before .before .before .before .before .before .before .before .before .before .before .args .h) (c .before .before .before .before .before .before .before .before .before .before .before .before .args .start) (c .before .before .before .before .before .before .before .before .before .before .before .before .args .sweep) (c .before .before .before .before .before .before .before .before .oval-in .result) (c .before .before .before .before .before .before .radians .result) (c .before .before .before .before .radians2 .result) (c .before .before .before .before .before .before .before .nearest-i32-to-f32 .result) (c .before .before .before .before .before .nearest-i32-to-f322 .result) (c .before .before .before .before .before .before .before .before .before .before .before .before .fits .x) (c .before .before .before .before .before .before .before .before .before .before .before .before .fits .y) (c .before .before .before .before .before .before .before .before .before .before .before .before .fits .start) (c .before .before .before .before .before .before .before .before .before .before .before .before .fits .sweep) (sym (c .before .before .before .before .before .before .before .before .before .before .is-empty .ensures) ∙ c .before .before .before .before .before .before .before .before .before .if1 .left) (c .before .before .before .before .before .before .before .before .oval-in .ensures) (c .before .before .before .before .before .before .before .nearest-i32-to-f32 .ensures) (c .before .before .before .before .before .before .radians .ensures) (c .before .before .before .before .before .nearest-i32-to-f322 .ensures) (c .before .before .before .before .radians2 .ensures)) (c .before .before .stroke-in .ensures)
+returns-2 c =
+    let a = c .before .before .before .before .before .before .before .before .before .before .before .before .args in
+    let f₀ = c .before .before .before .before .before .before .before .before .before .before .before .before .fits in
+    did-same (inked (a .ink)) _ _
+    (arc-stroke (a .canvas) (a .x) (a .y) (a .w) (a .h) (a .start) (a .sweep) (c .before .before .before .before .before .before .before .before .oval-in .result)
+    (c .before .before .before .before .before .before .radians .result) (c .before .before .before .before .radians2 .result)
+    (c .before .before .before .before .before .before .before .nearest-i32-to-f32 .result) (c .before .before .before .before .before .nearest-i32-to-f322 .result) (f₀ .x) (f₀ .y) (f₀ .start)
+    (f₀ .sweep)
+    (sym (c .before .before .before .before .before .before .before .before .before .before .is-empty .ensures) ∙ c .before .before .before .before .before .before .before .before .before .if1 .left) (c .before .before .before .before .before .before .before .before .oval-in .ensures) (c .before .before .before .before .before .before .before .nearest-i32-to-f32 .ensures) (c .before .before .before .before .before .before .radians .ensures) (c .before .before .before .before .before .nearest-i32-to-f322 .ensures) (c .before .before .before .before .radians2 .ensures)) (c .before .before .stroke-in .ensures)
 
 pub arc-in-spec : {M : Type 1} → statement M
-arc-in-spec = tie.close (tie.spec is-empty-requires returns oval-in-requires nearest-i32-to-f32-requires radians-requires nearest-i32-to-f32-requires-2 radians-requires-2 stroke-in-requires same-length returns-2)
+arc-in-spec =
+    tie.close
+    (tie.spec is-empty-requires returns oval-in-requires nearest-i32-to-f32-requires radians-requires nearest-i32-to-f32-requires-2 radians-requires-2 stroke-in-requires same-length returns-2)

@@ -18,7 +18,12 @@ same-length : tie.Need-same-length
 same-length c = search needs
 
 returns : tie.Need-returns
-returns c = spot-dabbed (c .before .before .before .before .before .before .before .before .before .args .canvas) (c .before .before .before .before .before .before .before .before .before .args .xs) (c .before .before .before .before .before .before .before .before .before .args .ys) (inked (c .before .before .before .before .before .before .before .before .before .args .ink)) (c .before .before .before .before .before .before .before .before .before .args .s) (c .before .before .before .before .before .before .lift .result) (c .before .before .before .before .lift2 .result) _ _ (record { sfits = c .before .before .before .before .before .before .before .struct-told .given .0 .1 }) (record { sfits = c .before .before .before .before .before .before .before .struct-told .given .1 .0 .1 }) (c .before .before .before .before .before .before .lift .ensures) (c .before .before .before .before .lift2 .ensures) (c .before .before .dab .ensures)
+returns c =
+    let a = c .before .before .before .before .before .before .before .before .before .args in
+    spot-dabbed (a .canvas) (a .xs) (a .ys) (inked (a .ink)) (a .s) (c .before .before .before .before .before .before .lift .result) (c .before .before .before .before .lift2 .result) _ _
+    (record { sfits = c .before .before .before .before .before .before .before .struct-told .given .0 .1 })
+    (record { sfits = c .before .before .before .before .before .before .before .struct-told .given .1 .0 .1 }) (c .before .before .before .before .before .before .lift .ensures)
+    (c .before .before .before .before .lift2 .ensures) (c .before .before .dab .ensures)
 
 pub dab-spot-spec : {M : Type 1} → statement M
 dab-spot-spec = tie.close (tie.spec lift-requires lift-requires-2 dab-requires same-length returns)

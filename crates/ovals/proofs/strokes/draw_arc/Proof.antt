@@ -25,10 +25,21 @@ enum-known-ink c = search needs
 
 arc-in-requires : tie.Need-arc-in-requires
 arc-in-requires c κs =
-    (start-sized (c .before .before .before .before .before .before .before .args .canvas) (c .before .before .before .before .before .before .before .args .bytes .now) (arcFault (c .before .before .before .before .before .before .before .args .x) (c .before .before .before .before .before .before .before .args .y) (c .before .before .before .before .before .before .before .args .w) (c .before .before .before .before .before .before .before .args .h) (c .before .before .before .before .before .before .before .args .start) (c .before .before .before .before .before .before .before .args .arc)) (c .before .before .before .before .before .before .before .args .color) _ _ (arc-of (c .before .before .before .before .before .before .before .args .x) (c .before .before .before .before .before .before .before .args .y) (c .before .before .before .before .before .before .before .args .w) (c .before .before .before .before .before .before .before .args .h) (c .before .before .before .before .before .before .before .args .start) (c .before .before .before .before .before .before .before .args .arc) _ (c .before .before .before .before .before .before .before .fits .x) (c .before .before .before .before .before .before .before .fits .y) (c .before .before .before .before .before .before .before .fits .start) (c .before .before .before .before .before .before .before .fits .arc) (c .before .before .before .before .before .arc-fault .ensures)) (c .before .before .before .before .begin .ensures) _ (c .before .before .ink .given .1), omega arith)
+    let a = c .before .before .before .before .before .before .before .args in
+    let f₀ = c .before .before .before .before .before .before .before .fits in (
+      start-sized (a .canvas) (a .bytes .now) (arcFault (a .x) (a .y) (a .w) (a .h) (a .start) (a .arc)) (a .color) _ _
+          (arc-of (a .x) (a .y) (a .w) (a .h) (a .start) (a .arc) _ (f₀ .x) (f₀ .y) (f₀ .start) (f₀ .arc) (c .before .before .before .before .before .arc-fault .ensures))
+          (c .before .before .before .before .begin .ensures) _ (c .before .before .ink .given .1),
+      omega arith,
+    )
 
 returns : tie.Need-returns
-returns c = start-refuses (c .before .before .before .before .before .before .args .canvas) (c .before .before .before .before .before .before .args .bytes .now) (arcFault (c .before .before .before .before .before .before .args .x) (c .before .before .before .before .before .before .args .y) (c .before .before .before .before .before .before .args .w) (c .before .before .before .before .before .before .args .h) (c .before .before .before .before .before .before .args .start) (c .before .before .before .before .before .before .args .arc)) (c .before .before .before .before .before .before .args .color) _ _ (arc-of (c .before .before .before .before .before .before .args .x) (c .before .before .before .before .before .before .args .y) (c .before .before .before .before .before .before .args .w) (c .before .before .before .before .before .before .args .h) (c .before .before .before .before .before .before .args .start) (c .before .before .before .before .before .before .args .arc) _ (c .before .before .before .before .before .before .fits .x) (c .before .before .before .before .before .before .fits .y) (c .before .before .before .before .before .before .fits .start) (c .before .before .before .before .before .before .fits .arc) (c .before .before .before .before .arc-fault .ensures)) (c .before .before .before .begin .ensures) _ _ _ (c .before .r .given .1)
+returns c =
+    let a = c .before .before .before .before .before .before .args in
+    let f₀ = c .before .before .before .before .before .before .fits in
+    start-refuses (a .canvas) (a .bytes .now) (arcFault (a .x) (a .y) (a .w) (a .h) (a .start) (a .arc)) (a .color) _ _
+    (arc-of (a .x) (a .y) (a .w) (a .h) (a .start) (a .arc) _ (f₀ .x) (f₀ .y) (f₀ .start) (f₀ .arc) (c .before .before .before .before .arc-fault .ensures))
+    (c .before .before .before .begin .ensures) _ _ _ (c .before .r .given .1)
 
 same-length : tie.Need-same-length
 same-length c = search needs
@@ -36,10 +47,25 @@ same-length c = search needs
 returns-2 : tie.Need-returns-2
 unfolding dots
 returns-2 c =
-    start-draws (c .before .before .before .before .before .before .before .before .before .before .args .canvas) (c .before .before .before .before .before .before .before .before .before .before .args .bytes .now) (arcFault (c .before .before .before .before .before .before .before .before .before .before .args .x) (c .before .before .before .before .before .before .before .before .before .before .args .y) (c .before .before .before .before .before .before .before .before .before .before .args .w) (c .before .before .before .before .before .before .before .before .before .before .args .h) (c .before .before .before .before .before .before .before .before .before .before .args .start) (c .before .before .before .before .before .before .before .before .before .before .args .arc)) (c .before .before .before .before .before .before .before .before .before .before .args .color) _ _ (arc-of (c .before .before .before .before .before .before .before .before .before .before .args .x) (c .before .before .before .before .before .before .before .before .before .before .args .y) (c .before .before .before .before .before .before .before .before .before .before .args .w) (c .before .before .before .before .before .before .before .before .before .before .args .h) (c .before .before .before .before .before .before .before .before .before .before .args .start) (c .before .before .before .before .before .before .before .before .before .before .args .arc) _ (c .before .before .before .before .before .before .before .before .before .before .fits .x) (c .before .before .before .before .before .before .before .before .before .before .fits .y) (c .before .before .before .before .before .before .before .before .before .before .fits .start) (c .before .before .before .before .before .before .before .before .before .before .fits .arc) (c .before .before .before .before .before .before .before .before .arc-fault .ensures)) (c .before .before .before .before .before .before .before .begin .ensures) _ (c .before .before .before .before .before .ink .given .1) (c .before .before .before .before .before .before .before .before .before .before .args .clip) (arc (c .before .before .before .before .before .before .before .before .before .before .args .canvas) (c .before .before .before .before .before .before .before .before .before .before .args .x) (c .before .before .before .before .before .before .before .before .before .before .args .y) (c .before .before .before .before .before .before .before .before .before .before .args .w) (c .before .before .before .before .before .before .before .before .before .before .args .h) (c .before .before .before .before .before .before .before .before .before .before .args .start) (c .before .before .before .before .before .before .before .before .before .before .args .arc)) _ _
+    let f₀ = c .before .before .before .before .before .before .before .before .before .before .fits in
+    let g₀ = c .before .before .before .before .before .before .before .before .before .before .good in
+    start-draws (c .before .before .before .before .before .before .before .before .before .before .args .canvas)
+    (c .before .before .before .before .before .before .before .before .before .before .args .bytes .now)
+    (arcFault (c .before .before .before .before .before .before .before .before .before .before .args .x)
+    (c .before .before .before .before .before .before .before .before .before .before .args .y) (c .before .before .before .before .before .before .before .before .before .before .args .w)
+    (c .before .before .before .before .before .before .before .before .before .before .args .h) (c .before .before .before .before .before .before .before .before .before .before .args .start)
+    (c .before .before .before .before .before .before .before .before .before .before .args .arc)) (c .before .before .before .before .before .before .before .before .before .before .args .color) _ _ (arc-of (c .before .before .before .before .before .before .before .before .before .before .args .x) (c .before .before .before .before .before .before .before .before .before .before .args .y) (c .before .before .before .before .before .before .before .before .before .before .args .w) (c .before .before .before .before .before .before .before .before .before .before .args .h) (c .before .before .before .before .before .before .before .before .before .before .args .start) (c .before .before .before .before .before .before .before .before .before .before .args .arc) _ (f₀ .x) (f₀ .y) (f₀ .start) (f₀ .arc) (c .before .before .before .before .before .before .before .before .arc-fault .ensures)) (c .before .before .before .before .before .before .before .begin .ensures) _ (c .before .before .before .before .before .ink .given .1) (c .before .before .before .before .before .before .before .before .before .before .args .clip) (arc (c .before .before .before .before .before .before .before .before .before .before .args .canvas) (c .before .before .before .before .before .before .before .before .before .before .args .x) (c .before .before .before .before .before .before .before .before .before .before .args .y) (c .before .before .before .before .before .before .before .before .before .before .args .w) (c .before .before .before .before .before .before .before .before .before .before .args .h) (c .before .before .before .before .before .before .before .before .before .before .args .start) (c .before .before .before .before .before .before .before .before .before .before .args .arc)) _ _
     (record { byte = λ i. c .before .before .before .before .before .before .before .before .before .slice-known .given i .fits })
-    (record { a = c .before .before .before .before .before .before .before .before .before .before .good .1 .1 .1 .1 .1 .1 .1 .1 .0 .1 .1 .0 .1; r = c .before .before .before .before .before .before .before .before .before .before .good .1 .1 .1 .1 .1 .1 .1 .1 .0 .1 .1 .1 .0 .1; g = c .before .before .before .before .before .before .before .before .before .before .good .1 .1 .1 .1 .1 .1 .1 .1 .0 .1 .1 .1 .1 .0 .1; b = c .before .before .before .before .before .before .before .before .before .before .good .1 .1 .1 .1 .1 .1 .1 .1 .0 .1 .1 .1 .1 .1 .0 .1 })
-    (rw (toZ-ofZ w32 (c .before .before .before .before .before .before .before .before .before .before .args .x) (c .before .before .before .before .before .before .before .before .before .before .fits .x), toZ-ofZ w32 (c .before .before .before .before .before .before .before .before .before .before .args .y) (c .before .before .before .before .before .before .before .before .before .before .fits .y), toZ-ofZ w32 (c .before .before .before .before .before .before .before .before .before .before .args .start) (c .before .before .before .before .before .before .before .before .before .before .fits .start), toZ-ofZ w32 (c .before .before .before .before .before .before .before .before .before .before .args .arc) (c .before .before .before .before .before .before .before .before .before .before .fits .arc)) at (c .before .before .arc-in .ensures))
+    (record { a = g₀ .1 .1 .1 .1 .1 .1 .1 .1 .0 .1 .1 .0 .1; r = g₀ .1 .1 .1 .1 .1 .1 .1 .1 .0 .1 .1 .1 .0 .1; g = g₀ .1 .1 .1 .1 .1 .1 .1 .1 .0 .1 .1 .1 .1 .0 .1; b = g₀ .1 .1 .1 .1 .1 .1 .1 .1 .0 .1 .1 .1 .1 .1 .0 .1 })
+    (rw (
+      toZ-ofZ w32 (c .before .before .before .before .before .before .before .before .before .before .args .x) (f₀ .x),
+      toZ-ofZ w32
+          (c .before .before .before .before .before .before .before .before .before .before .args .y) (f₀ .y),
+      toZ-ofZ w32
+          (c .before .before .before .before .before .before .before .before .before .before .args .start) (f₀ .start),
+      toZ-ofZ w32
+          (c .before .before .before .before .before .before .before .before .before .before .args .arc) (f₀ .arc),
+    ) at (c .before .before .arc-in .ensures))
 
 pub draw-arc-spec : {M : Type 1} → statement M
 draw-arc-spec =

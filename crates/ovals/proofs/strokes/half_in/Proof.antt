@@ -30,14 +30,37 @@ stroke-in-requires : tie.Need-stroke-in-requires
 stroke-in-requires c κs = search needs
 
 stroke-in-requires-2 : tie.Need-stroke-in-requires-2
-stroke-in-requires-2 c κs = (did-sized (c .before .before .before .stroke-in .ensures) (c .before .before .before .before .before .before .before .before .before .before .before .pre .0), omega (arith, c .before .before .before .before .before .before .before .before .before .before .before .pre .1, did-le (inked (c .before .before .before .before .before .before .before .before .before .before .before .args .ink)) (stroke (c .before .before .before .before .before .before .before .before .before .before .before .args .canvas) (c .before .before .before .before .before .before .corner .result) (c .before .before .before .before .before .before .before .before .radians2 .result) (c .before .before .before .before .before .before .before .before .before .radians .result)) (c .before .before .before .stroke-in .ensures), stroke-le (c .before .before .before .before .before .before .before .before .before .before .before .args .canvas) (c .before .before .before .before .before .before .corner .result) (c .before .before .before .before .before .before .before .before .radians2 .result) (c .before .before .before .before .before .before .before .before .before .radians .result) (c .before .before .before .before .before .before .before .before .before .before .before .pre .0 .wide) (c .before .before .before .before .before .before .before .before .before .before .before .pre .0 .high)))
+stroke-in-requires-2 c κs =
+    let a = c .before .before .before .before .before .before .before .before .before .before .before .args in
+    let p₀ = c .before .before .before .before .before .before .before .before .before .before .before .pre in (
+      did-sized (c .before .before .before .stroke-in .ensures) (p₀ .0),
+      omega (
+        arith,
+        p₀ .1,
+        did-le (inked (a .ink))
+            (stroke (a .canvas) (c .before .before .before .before .before .before .corner .result) (c .before .before .before .before .before .before .before .before .radians2 .result)
+            (c .before .before .before .before .before .before .before .before .before .radians .result)) (c .before .before .before .stroke-in .ensures),
+        stroke-le (a .canvas) (c .before .before .before .before .before .before .corner .result) (c .before .before .before .before .before .before .before .before .radians2 .result) (c .before .before .before .before .before .before .before .before .before .radians .result) (p₀ .0 .wide) (p₀ .0 .high),
+      ),
+    )
 
 same-length : tie.Need-same-length
 same-length c = search needs
 
 returns : tie.Need-returns
 unfolding ofBits
-returns c = half-did (inked (c .before .before .before .before .before .before .before .before .before .before .before .before .before .before .args .ink)) (c .before .before .before .before .before .before .before .before .before .before .before .before .before .before .args .c) (c .before .before .before .before .before .before .before .before .before .before .before .before .before .before .args .low) _ _ (c .before .before .before .before .before .before .before .before .before .corner .result) (c .before .before .before .before .before .before .before .before .corner2 .result) (c .before .before .before .before .before .before .before .before .before .before .before .radians2 .result) (c .before .before .before .before .before .before .before .before .before .before .radians3 .result) (c .before .before .before .before .before .before .before .before .before .before .before .before .radians .result) (c .before .before .before .before .before .before .before .before .before .corner .ensures) (c .before .before .before .before .before .before .before .before .corner2 .ensures) (c .before .before .before .before .before .before .before .before .before .before .before .radians2 .ensures) (c .before .before .before .before .before .before .before .before .before .before .radians3 .ensures) (c .before .before .before .before .before .before .before .before .before .before .before .before .radians .ensures ∙ ap radiansOf ninety) (c .before .before .before .before .before .before .stroke-in .ensures) (c .before .before .stroke-in2 .ensures)
+returns c =
+    let a = c .before .before .before .before .before .before .before .before .before .before .before .before .before .before .args in
+    half-did (inked (a .ink)) (a .c) (a .low) _ _ (c .before .before .before .before .before .before .before .before .before .corner .result)
+    (c .before .before .before .before .before .before .before .before .corner2 .result)
+    (c .before .before .before .before .before .before .before .before .before .before .before .radians2 .result)
+    (c .before .before .before .before .before .before .before .before .before .before .radians3 .result)
+    (c .before .before .before .before .before .before .before .before .before .before .before .before .radians .result)
+    (c .before .before .before .before .before .before .before .before .before .corner .ensures) (c .before .before .before .before .before .before .before .before .corner2 .ensures)
+    (c .before .before .before .before .before .before .before .before .before .before .before .radians2 .ensures)
+    (c .before .before .before .before .before .before .before .before .before .before .radians3 .ensures)
+    (c .before .before .before .before .before .before .before .before .before .before .before .before .radians .ensures ∙ ap radiansOf ninety)
+    (c .before .before .before .before .before .before .stroke-in .ensures) (c .before .before .stroke-in2 .ensures)
 
 pub half-in-spec : {M : Type 1} → statement M
 half-in-spec = tie.close (tie.spec radians-requires radians-requires-2 radians-requires-3 corner-requires corner-requires-2 stroke-in-requires stroke-in-requires-2 same-length returns)

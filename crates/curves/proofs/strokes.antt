@@ -1,0 +1,2 @@
+-- What the proofs of strokes use.
+pub mod Sixteen
