@@ -13,6 +13,9 @@ extern crate alloc;
 #[allow(warnings)]
 #[path = "../oracle/src/wie.rs"]
 mod canvas;
+#[allow(dead_code)]
+#[path = "../oracle/src/exported.rs"]
+mod exported;
 mod race;
 mod shapes;
 
@@ -22,6 +25,7 @@ use canvas::{
     AbgrPixel, ArgbPixel, Canvas, Clip, Color, Image, ImageBufferCanvas, PixelType, Rgb8Pixel, Rgb332Pixel, Rgb565Pixel,
     VecImageBuffer,
 };
+use exported::*;
 use race::race;
 
 const WIDTH: u32 = 240;
@@ -33,141 +37,12 @@ const INNER: Clip = Clip { x: 10, y: 10, width: WIDTH - 20, height: HEIGHT - 20 
 const NAMES: [&str; 5] = ["332", "565", "RGB8", "ARGB", "ABGR"];
 const SIZES: [u32; 5] = [1, 2, 4, 4, 4];
 
-unsafe extern "C" {
-    fn tuyrashka_fill_rect(
-        format: u32,
-        width: u32,
-        height: u32,
-        xor: bool,
-        data: *mut u8,
-        length: usize,
-        x: i32,
-        y: i32,
-        w: u32,
-        h: u32,
-        argb: u32,
-        clip_x: i32,
-        clip_y: i32,
-        clip_w: u32,
-        clip_h: u32,
-        count: *mut u64,
-    ) -> u32;
-    fn tuyrashka_draw_rect(
-        format: u32,
-        width: u32,
-        height: u32,
-        xor: bool,
-        data: *mut u8,
-        length: usize,
-        x: i32,
-        y: i32,
-        w: u32,
-        h: u32,
-        argb: u32,
-        clip_x: i32,
-        clip_y: i32,
-        clip_w: u32,
-        clip_h: u32,
-        count: *mut u64,
-    ) -> u32;
-    fn tuyrashka_invert_rect(
-        format: u32,
-        width: u32,
-        height: u32,
-        xor: bool,
-        data: *mut u8,
-        length: usize,
-        x: i32,
-        y: i32,
-        w: u32,
-        h: u32,
-        clip_x: i32,
-        clip_y: i32,
-        clip_w: u32,
-        clip_h: u32,
-        count: *mut u64,
-    ) -> u32;
-    fn tuyrashka_copy_area(
-        format: u32,
-        width: u32,
-        height: u32,
-        xor: bool,
-        data: *mut u8,
-        length: usize,
-        dx: i32,
-        dy: i32,
-        sx: i32,
-        sy: i32,
-        w: u32,
-        h: u32,
-        clip_x: i32,
-        clip_y: i32,
-        clip_w: u32,
-        clip_h: u32,
-        count: *mut u64,
-    ) -> u32;
-    fn tuyrashka_draw(
-        format: u32,
-        width: u32,
-        height: u32,
-        xor: bool,
-        data: *mut u8,
-        length: usize,
-        dx: i32,
-        dy: i32,
-        w: u32,
-        h: u32,
-        source_format: u32,
-        source_width: u32,
-        source_height: u32,
-        source_data: *const u8,
-        source_length: usize,
-        sx: i32,
-        sy: i32,
-        clip_x: i32,
-        clip_y: i32,
-        clip_w: u32,
-        clip_h: u32,
-        count: *mut u64,
-    ) -> u32;
-    fn tuyrashka_put_pixel(
-        format: u32,
-        width: u32,
-        height: u32,
-        xor: bool,
-        data: *mut u8,
-        length: usize,
-        x: i32,
-        y: i32,
-        argb: u32,
-        clip_x: i32,
-        clip_y: i32,
-        clip_w: u32,
-        clip_h: u32,
-        count: *mut u64,
-    ) -> u32;
-    fn tuyrashka_get_pixel(
-        format: u32,
-        width: u32,
-        height: u32,
-        xor: bool,
-        data: *const u8,
-        length: usize,
-        x: i32,
-        y: i32,
-        found: *mut u32,
-        argb: *mut u32,
-    ) -> u32;
-}
-
-fn word(c: Color) -> u32 {
-    u32::from_be_bytes([c.a, c.r, c.g, c.b])
-}
+/// The clip as ours takes it, made once.
+const LENT: exported::Clip = part(WHOLE);
 
 /// Our canvas.
 struct Ours {
-    format: u32,
-    xor: bool,
+    canvas: exported::Canvas,
     bytes: Vec<u8>,
 }
 
@@ -187,87 +62,42 @@ enum Work {
 
 impl Ours {
     fn call(&mut self, image: &Ours, work: Work) -> u64 {
-        let (mut count, data, length) = (0, self.bytes.as_mut_ptr(), self.bytes.len());
-        let (format, xor, n) = (self.format, self.xor, &mut count);
-        let Clip { x: cx, y: cy, width: cw, height: ch } = WHOLE;
+        let (canvas, data, length, argb) = (&self.canvas, self.bytes.as_mut_ptr(), self.bytes.len(), word(COLOR));
+        let mut drawn = Drawn::default();
+        let d = &mut drawn;
         let status = unsafe {
             match work {
-                Work::Fill(clip) => {
-                    let Clip { x: cx, y: cy, width: cw, height: ch } = clip;
-                    let argb = word(COLOR);
-                    tuyrashka_fill_rect(format, WIDTH, HEIGHT, xor, data, length, 0, 0, WIDTH, HEIGHT, argb, cx, cy, cw, ch, n)
-                }
-                Work::Rect(x, y, w, h) => {
-                    let argb = word(COLOR);
-                    tuyrashka_draw_rect(format, WIDTH, HEIGHT, xor, data, length, x, y, w, h, argb, cx, cy, cw, ch, n)
-                }
-                Work::Invert => {
-                    tuyrashka_invert_rect(format, WIDTH, HEIGHT, xor, data, length, 0, 0, WIDTH, HEIGHT, cx, cy, cw, ch, n)
-                }
+                Work::Fill(clip) => tuyrashka_fill_rect(canvas, data, length, 0, 0, WIDTH, HEIGHT, argb, &part(clip), d),
+                Work::Rect(x, y, w, h) => tuyrashka_draw_rect(canvas, data, length, x, y, w, h, argb, &LENT, d),
+                Work::Invert => tuyrashka_invert_rect(canvas, data, length, 0, 0, WIDTH, HEIGHT, &LENT, d),
                 Work::Copy((dx, dy), (sx, sy), w, h) => {
-                    tuyrashka_copy_area(format, WIDTH, HEIGHT, xor, data, length, dx, dy, sx, sy, w, h, cx, cy, cw, ch, n)
+                    tuyrashka_copy_area(canvas, data, length, dx, dy, sx, sy, w, h, &LENT, d)
                 }
-                Work::Draw => tuyrashka_draw(
-                    format,
-                    WIDTH,
-                    HEIGHT,
-                    xor,
-                    data,
-                    length,
-                    0,
-                    0,
-                    WIDTH,
-                    HEIGHT,
-                    image.format,
-                    WIDTH,
-                    HEIGHT,
-                    image.bytes.as_ptr(),
-                    image.bytes.len(),
-                    0,
-                    0,
-                    cx,
-                    cy,
-                    cw,
-                    ch,
-                    n,
-                ),
+                Work::Draw => {
+                    let (source, image) = (&image.canvas, &image.bytes);
+                    let (image, image_length) = (image.as_ptr(), image.len());
+                    tuyrashka_draw(canvas, data, length, 0, 0, WIDTH, HEIGHT, source, image, image_length, 0, 0, &LENT, d)
+                }
             }
         };
         assert_eq!(status, 0);
-        count
+        drawn.landed
     }
 
     fn put(&mut self, x: i32, y: i32) -> u64 {
-        let (mut count, data) = (0, &mut self.bytes);
+        let (mut drawn, data) = (Drawn::default(), &mut self.bytes);
         let status = unsafe {
-            tuyrashka_put_pixel(
-                self.format,
-                WIDTH,
-                HEIGHT,
-                self.xor,
-                data.as_mut_ptr(),
-                data.len(),
-                x,
-                y,
-                word(COLOR),
-                WHOLE.x,
-                WHOLE.y,
-                WHOLE.width,
-                WHOLE.height,
-                &mut count,
-            )
+            tuyrashka_put_pixel(&self.canvas, data.as_mut_ptr(), data.len(), x, y, word(COLOR), &LENT, &mut drawn)
         };
         assert_eq!(status, 0);
-        count
+        drawn.landed
     }
 
     fn get(&self, x: i32, y: i32) -> Option<u32> {
-        let (mut found, mut argb, data) = (0, 0, &self.bytes);
-        let status = unsafe {
-            tuyrashka_get_pixel(self.format, WIDTH, HEIGHT, self.xor, data.as_ptr(), data.len(), x, y, &mut found, &mut argb)
-        };
+        let (mut found, mut argb, data) = (false, 0, &self.bytes);
+        let status = unsafe { tuyrashka_get_pixel(&self.canvas, data.as_ptr(), data.len(), x, y, &mut found, &mut argb) };
         assert_eq!(status, 0);
-        (found == 1).then_some(argb)
+        found.then_some(argb)
     }
 }
 
@@ -290,7 +120,8 @@ fn pair_of(format: u32, xor: bool, mut s: u32, sides: (u32, u32)) -> (Box<dyn Ca
         _ => canvas_of::<AbgrPixel>(sides, &bytes),
     };
     canvas.set_xor_mode(xor);
-    (canvas, Ours { format, xor, bytes })
+    let (width, height) = sides;
+    (canvas, Ours { canvas: exported::Canvas { format, width, height, xor_mode: xor.into() }, bytes })
 }
 
 fn canvas_of<P: PixelType + 'static>((width, height): (u32, u32), bytes: &[u8]) -> Box<dyn Canvas> {
@@ -326,7 +157,8 @@ fn row(what: &str, format: u32, xor: bool, note: &str, landed: u64, [rust, ours]
 }
 
 fn same(canvas: &dyn Canvas, ours: &Ours) {
-    assert!(*canvas.image().raw() == ours.bytes, "the two sides differ in format {}, XOR {}", ours.format, ours.xor);
+    let exported::Canvas { format, xor_mode, .. } = ours.canvas;
+    assert!(*canvas.image().raw() == ours.bytes, "the two sides differ in format {format}, XOR {xor_mode}");
 }
 
 /// A row of a call; an image, where it has one, is of the format `source`.
@@ -341,27 +173,29 @@ fn call(what: &str, format: u32, xor: bool, note: &str, source: u32, work: Work)
     row(what, format, xor, note, landed, times);
 }
 
+fn rust_puts(canvas: &mut dyn Canvas) {
+    let canvas = black_box(canvas);
+    every_point(|x, y| canvas.put_pixel(x, y, COLOR, WHOLE));
+}
+
+fn rust_gets(canvas: &dyn Canvas) {
+    let canvas = black_box(canvas);
+    every_point(|x, y| _ = black_box(canvas.get_pixel(x, y)));
+}
+
 fn put(format: u32, xor: bool) {
     let (mut canvas, mut ours) = pair(format, xor, 7);
-    let rust_pass = |canvas: &mut dyn Canvas| {
-        let canvas = black_box(canvas);
-        every_point(|x, y| canvas.put_pixel(x, y, COLOR, WHOLE));
-    };
-    rust_pass(&mut *canvas);
+    rust_puts(&mut *canvas);
     every_point(|x, y| assert_eq!(ours.put(x, y), 1));
     same(&*canvas, &ours);
-    let times = race(|| rust_pass(&mut *canvas), || every_point(|x, y| _ = black_box(ours.put(x, y))));
+    let times = race(|| rust_puts(&mut *canvas), || every_point(|x, y| _ = black_box(ours.put(x, y))));
     row("put_pixel", format, xor, "whole", PIXELS, times);
 }
 
 fn get(format: u32) {
     let (canvas, ours) = pair(format, false, 7);
     every_point(|x, y| assert_eq!(canvas.get_pixel(x, y).map(word), ours.get(x, y)));
-    let rust_pass = || {
-        let canvas = black_box(&*canvas);
-        every_point(|x, y| _ = black_box(canvas.get_pixel(x, y)));
-    };
-    let times = race(rust_pass, || every_point(|x, y| _ = black_box(ours.get(x, y))));
+    let times = race(|| rust_gets(&*canvas), || every_point(|x, y| _ = black_box(ours.get(x, y))));
     row("get_pixel", format, false, "", PIXELS, times);
 }
 
@@ -379,6 +213,13 @@ fn passes(name: &str, side: &str, format: u32, xor: bool, k: u32) {
         return;
     }
     let (mut canvas, mut ours) = pair(format, xor, 7);
+    match (name, side) {
+        ("put", "rust") => return (0..k).for_each(|_| rust_puts(&mut *canvas)),
+        ("put", _) => return (0..k).for_each(|_| every_point(|x, y| _ = black_box(ours.put(x, y)))),
+        ("get", "rust") => return (0..k).for_each(|_| rust_gets(&*canvas)),
+        ("get", _) => return (0..k).for_each(|_| every_point(|x, y| _ = black_box(ours.get(x, y)))),
+        _ => {}
+    }
     let (image, lent) = pair(3, false, 8);
     let copy = |note| COPIES.into_iter().find(|(name, _)| *name == note);
     let work = match name {

@@ -12,32 +12,22 @@ extern crate alloc;
 #[allow(warnings)]
 #[path = "../oracle/src/wie.rs"]
 mod canvas;
+#[allow(dead_code)]
+#[path = "../oracle/src/exported.rs"]
+mod exported;
 mod race;
 
 use std::hint::black_box;
 
+use exported::{Size, tuyrashka_decode_lbmp};
 use race::race;
 
 const SIDES: [(u32, u32); 4] = [(240, 320), (16, 16), (5, 7), (1, 1)];
 const TYPES: [u32; 3] = [2, 8, 16];
 
-unsafe extern "C" {
-    fn tuyrashka_decode_lbmp(
-        file: *const u8,
-        file_len: usize,
-        out: *mut u32,
-        out_len: usize,
-        width: *mut u32,
-        height: *mut u32,
-        clear: *mut u64,
-    ) -> u32;
-}
-
 fn ours(file: &[u8], out: &mut [u32]) -> u64 {
-    let (mut width, mut height, mut clear) = (0, 0, 0);
-    let status = unsafe {
-        tuyrashka_decode_lbmp(file.as_ptr(), file.len(), out.as_mut_ptr(), out.len(), &mut width, &mut height, &mut clear)
-    };
+    let (mut size, mut clear) = (Size::default(), 0);
+    let status = unsafe { tuyrashka_decode_lbmp(file.as_ptr(), file.len(), out.as_mut_ptr(), out.len(), &mut size, &mut clear) };
     assert_eq!(status, 0);
     clear
 }

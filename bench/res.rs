@@ -12,14 +12,15 @@ extern crate alloc;
 #[allow(warnings)]
 #[path = "../oracle/src/wie.rs"]
 mod canvas;
-mod race;
 #[allow(dead_code)]
-#[path = "../rust/src/lib.rs"]
-mod tuyrashka;
+#[path = "../oracle/src/exported.rs"]
+mod exported;
+mod race;
 
 use std::hint::black_box;
 
 use canvas::decode_res;
+use exported::{Size, tuyrashka_decode_res};
 use race::race;
 
 fn record(kind: u8, side: u8, count: &[u8], depth: u8, bytes: usize) -> Vec<u8> {
@@ -51,14 +52,24 @@ fn rust(file: &[u8]) {
     _ = black_box(decode_res(black_box(file)).is_ok());
 }
 
+/// Whether there is an icon, its sides and its pixels.
+fn found(file: &[u8]) -> Option<(Size, &[u8])> {
+    let (mut start, mut size) = (0, Size::default());
+    let status = unsafe { tuyrashka_decode_res(file.as_ptr(), file.len(), &mut start, &mut size) };
+    (status == 0).then(|| (size, &file[start..start + size.width as usize * size.height as usize]))
+}
+
 fn ours(file: &[u8]) {
-    _ = black_box(tuyrashka::decode_res(black_box(file)));
+    _ = black_box(found(black_box(file)));
 }
 
 fn same(file: &[u8]) {
-    match (decode_res(file), tuyrashka::decode_res(file)) {
-        (Ok(a), Ok(b)) => assert_eq!((a.width(), a.height(), &*a.raw()), (b.width, b.height, b.data)),
-        (a, b) => assert!(a.is_err() && b.is_err()),
+    match decode_res(file) {
+        Ok(image) => {
+            let size = Size { width: image.width(), height: image.height() };
+            assert!(found(file) == Some((size, &*image.raw())));
+        }
+        Err(_) => assert!(found(file).is_none()),
     }
 }
 

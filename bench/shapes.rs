@@ -3,113 +3,14 @@
 use std::hint::black_box;
 
 use crate::canvas::{Canvas, Clip};
-use crate::{COLOR, Ours, pair_of, race, row, same, word};
+#[allow(unused)]
+use crate::exported::{self, *};
+use crate::{COLOR, Ours, pair_of, race, row, same};
 
 /// A screen on which every line has 320 plots.
 const SIDE: u32 = 320;
 const WHOLE: Clip = Clip { x: 0, y: 0, width: SIDE, height: SIDE };
-
-#[allow(dead_code)]
-unsafe extern "C" {
-    fn tuyrashka_draw_line(
-        format: u32,
-        width: u32,
-        height: u32,
-        xor: bool,
-        data: *mut u8,
-        length: usize,
-        x1: i32,
-        y1: i32,
-        x2: i32,
-        y2: i32,
-        argb: u32,
-        clip_x: i32,
-        clip_y: i32,
-        clip_w: u32,
-        clip_h: u32,
-        count: *mut u64,
-    ) -> u32;
-    fn tuyrashka_draw_arc(
-        format: u32,
-        width: u32,
-        height: u32,
-        xor: bool,
-        data: *mut u8,
-        length: usize,
-        x: i32,
-        y: i32,
-        w: u32,
-        h: u32,
-        start: i32,
-        sweep: i32,
-        argb: u32,
-        clip_x: i32,
-        clip_y: i32,
-        clip_w: u32,
-        clip_h: u32,
-        count: *mut u64,
-    ) -> u32;
-    fn tuyrashka_fill_arc(
-        format: u32,
-        width: u32,
-        height: u32,
-        xor: bool,
-        data: *mut u8,
-        length: usize,
-        x: i32,
-        y: i32,
-        w: u32,
-        h: u32,
-        start: i32,
-        sweep: i32,
-        argb: u32,
-        clip_x: i32,
-        clip_y: i32,
-        clip_w: u32,
-        clip_h: u32,
-        count: *mut u64,
-    ) -> u32;
-    fn tuyrashka_draw_round_rect(
-        format: u32,
-        width: u32,
-        height: u32,
-        xor: bool,
-        data: *mut u8,
-        length: usize,
-        x: i32,
-        y: i32,
-        w: u32,
-        h: u32,
-        arc_width: u32,
-        arc_height: u32,
-        argb: u32,
-        clip_x: i32,
-        clip_y: i32,
-        clip_w: u32,
-        clip_h: u32,
-        count: *mut u64,
-    ) -> u32;
-    fn tuyrashka_fill_round_rect(
-        format: u32,
-        width: u32,
-        height: u32,
-        xor: bool,
-        data: *mut u8,
-        length: usize,
-        x: i32,
-        y: i32,
-        w: u32,
-        h: u32,
-        arc_width: u32,
-        arc_height: u32,
-        argb: u32,
-        clip_x: i32,
-        clip_y: i32,
-        clip_w: u32,
-        clip_h: u32,
-        count: *mut u64,
-    ) -> u32;
-}
+const LENT: exported::Clip = part(WHOLE);
 
 #[derive(Clone, Copy)]
 enum Shape {
@@ -174,34 +75,26 @@ impl Shape {
     /// What the library does not have is not linked.
     #[allow(unreachable_code, unreachable_patterns, unused)]
     fn ours(self, on: &mut Ours) -> u64 {
-        let (mut count, data, length) = (0, on.bytes.as_mut_ptr(), on.bytes.len());
-        let (f, xor, k, n) = (on.format, on.xor, word(COLOR), &mut count);
-        let (s, x, Clip { x: cx, y: cy, width: cw, height: ch }) = (SIDE, AT, WHOLE);
+        let (canvas, data, length, k) = (&on.canvas, on.bytes.as_mut_ptr(), on.bytes.len(), word(COLOR));
+        let (x, mut drawn) = (AT, Drawn::default());
+        let d = &mut drawn;
         let status: u32 = unsafe {
             match self {
                 #[cfg(op = "line")]
-                Line([x1, y1, x2, y2]) => tuyrashka_draw_line(f, s, s, xor, data, length, x1, y1, x2, y2, k, cx, cy, cw, ch, n),
+                Line([x1, y1, x2, y2]) => tuyrashka_draw_line(canvas, data, length, x1, y1, x2, y2, k, &LENT, d),
                 #[cfg(op = "arc")]
-                Arc(w, start, sweep) => {
-                    tuyrashka_draw_arc(f, s, s, xor, data, length, x, x, w, w, start, sweep, k, cx, cy, cw, ch, n)
-                }
+                Arc(w, start, sweep) => tuyrashka_draw_arc(canvas, data, length, x, x, w, w, start, sweep, k, &LENT, d),
                 #[cfg(op = "pie")]
-                Pie(w, start, sweep) => {
-                    tuyrashka_fill_arc(f, s, s, xor, data, length, x, x, w, w, start, sweep, k, cx, cy, cw, ch, n)
-                }
+                Pie(w, start, sweep) => tuyrashka_fill_arc(canvas, data, length, x, x, w, w, start, sweep, k, &LENT, d),
                 #[cfg(op = "rrect")]
-                RoundRect(w, arc) => {
-                    tuyrashka_draw_round_rect(f, s, s, xor, data, length, x, x, w, w, arc, arc, k, cx, cy, cw, ch, n)
-                }
+                RoundRect(w, arc) => tuyrashka_draw_round_rect(canvas, data, length, x, x, w, w, arc, arc, k, &LENT, d),
                 #[cfg(op = "frrect")]
-                FillRoundRect(w, arc) => {
-                    tuyrashka_fill_round_rect(f, s, s, xor, data, length, x, x, w, w, arc, arc, k, cx, cy, cw, ch, n)
-                }
+                FillRoundRect(w, arc) => tuyrashka_fill_round_rect(canvas, data, length, x, x, w, w, arc, arc, k, &LENT, d),
                 other => unreachable!("oracle/ops has not {}", other.what().0),
             }
         };
         assert_eq!(status, 0);
-        count
+        drawn.landed
     }
 }
 

@@ -11,13 +11,11 @@ mod oracle {
     #[path = "wie.rs"]
     pub mod canvas;
     pub mod case;
+    pub mod exported;
     pub mod icons;
     pub mod library;
     pub mod tally;
 }
-#[allow(dead_code)]
-#[path = "../../rust/src/lib.rs"]
-mod tuyrashka;
 
 use std::process::ExitCode;
 

@@ -5,25 +5,17 @@ extern crate alloc;
 #[allow(warnings)]
 #[path = "../src/wie.rs"]
 mod canvas;
+#[allow(dead_code)]
+#[path = "../src/exported.rs"]
+mod exported;
 mod files;
 
 use std::panic::catch_unwind;
 use std::process::ExitCode;
 
+use exported::{Size, tuyrashka_decode_lbmp};
 use files::{File, Random};
 use wie_util::WieError;
-
-unsafe extern "C" {
-    fn tuyrashka_decode_lbmp(
-        file: *const u8,
-        file_len: usize,
-        out: *mut u32,
-        out_len: usize,
-        width: *mut u32,
-        height: *mut u32,
-        clear: *mut u64,
-    ) -> u32;
-}
 
 #[derive(Debug, PartialEq)]
 struct Outcome {
@@ -41,11 +33,9 @@ fn lent(room: usize) -> Vec<u32> {
 
 fn ours(file: &[u8], room: usize) -> Outcome {
     let mut words = lent(room);
-    let (mut width, mut height, mut clear) = (77, 77, 77);
-    let status = unsafe {
-        tuyrashka_decode_lbmp(file.as_ptr(), file.len(), words.as_mut_ptr(), room, &mut width, &mut height, &mut clear)
-    };
-    Outcome { status, width, height, clear, words }
+    let (mut size, mut clear) = (Size { width: 77, height: 77 }, 77);
+    let status = unsafe { tuyrashka_decode_lbmp(file.as_ptr(), file.len(), words.as_mut_ptr(), room, &mut size, &mut clear) };
+    Outcome { status, width: size.width, height: size.height, clear, words }
 }
 
 /// Its refusals are the Rust's own kinds of error; ROOM has no counterpart there.

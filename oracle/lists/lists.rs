@@ -10,15 +10,13 @@ mod oracle {
     #[path = "wie.rs"]
     pub mod canvas;
     pub mod case;
+    pub mod exported;
     pub mod icons;
     pub mod library;
     pub mod random;
     pub mod tally;
 }
 mod sides;
-#[allow(dead_code)]
-#[path = "../../rust/src/lib.rs"]
-mod tuyrashka;
 
 use std::process::ExitCode;
 

@@ -6,16 +6,17 @@ extern crate alloc;
 #[path = "../src/wie.rs"]
 mod canvas;
 #[allow(dead_code)]
+#[path = "../src/exported.rs"]
+mod exported;
+#[allow(dead_code)]
 #[path = "../src/icons.rs"]
 mod icons;
-#[allow(dead_code)]
-#[path = "../../rust/src/lib.rs"]
-mod tuyrashka;
 
 use std::panic::catch_unwind;
 use std::process::ExitCode;
 
 use canvas::decode_res;
+use exported::{Size, tuyrashka_decode_res};
 use icons::{number, stand_at};
 
 #[derive(Default)]
@@ -30,14 +31,16 @@ struct Tally {
 /// Whether both sides give the same; where they find an icon, its pixels, and else the refusal.
 fn compare(file: &mut [u8]) -> Option<Result<usize, u32>> {
     let rust = catch_unwind(|| decode_res(file)).ok()?;
-    match (tuyrashka::decode_res(file), rust) {
-        (Err(ours), Err(rust)) => (ours.number() == number(&rust)).then_some(Err(ours.number())),
-        (Ok(ours), Ok(rust)) => {
-            let at = ours.data.as_ptr() as usize - file.as_ptr() as usize;
-            let same = (ours.width, ours.height, ours.data) == (rust.width(), rust.height(), &*rust.raw());
+    let (mut at, mut size) = (77, Size { width: 77, height: 77 });
+    let status = unsafe { tuyrashka_decode_res(file.as_ptr(), file.len(), &mut at, &mut size) };
+    match rust {
+        Err(rust) => ((status, at, size) == (number(&rust), 0, Size::default())).then_some(Err(status)),
+        Ok(rust) => {
+            let sides = Size { width: rust.width(), height: rust.height() };
+            let part = file.get(at..at + rust.raw().len());
+            let same = (status, size, part) == (0, sides, Some(&*rust.raw()));
             (same && stand_at(file, &rust.raw(), at)).then(|| Ok(rust.raw().len()))
         }
-        _ => None,
     }
 }
 

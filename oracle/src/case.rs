@@ -46,6 +46,7 @@ pub struct Case {
 impl Case {
     /// Nothing if the line cannot be read.
     pub fn read(line: &[u8]) -> Option<Case> {
+        let line = line.strip_suffix(b"\r").unwrap_or(line);
         if line.len() > LINE {
             return None;
         }

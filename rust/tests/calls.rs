@@ -1,16 +1,18 @@
 //! The wrapper's test: small screens, XOR and its undoing, and every refusal on either side of its edge.
 
-use tuyrashka::{
-    ABGR, ARGB, Canvas, Clip, Color, Image, LbmpRefusal, RGB8, RGB332, RGB565, Refusal, ResRefusal, decode_lbmp, decode_res,
-};
+#![forbid(unsafe_code)]
 
-type Answer = Result<u64, Refusal>;
+use std::error::Error;
 
-const WHITE: Color = Color { a: 255, r: 255, g: 255, b: 255 };
-const SIZES: [u32; 5] = [1, 2, 4, 4, 4];
+use tuyrashka::Format::{Abgr, Argb, Rgb8, Rgb332, Rgb565};
+use tuyrashka::{Canvas, Clip, Color, Drawn, Format, Image, Refusal, decode_lbmp, decode_res};
 
-fn clip(x: i32, y: i32, width: u32, height: u32) -> Clip {
-    Clip { x, y, width, height }
+type Answer = Result<Drawn, Refusal>;
+
+const WHITE: Color = Color::rgb(255, 255, 255);
+
+fn landed(answer: Answer) -> Result<u64, Refusal> {
+    answer.map(|drawn| drawn.landed)
 }
 
 /// Bytes of all kinds, the same in each run.
@@ -20,37 +22,38 @@ fn noise(length: usize) -> Vec<u8> {
 }
 
 /// A call's answer on a black 332 screen, and the bytes it leaves.
-fn on_black(width: u32, height: u32, call: impl Fn(&mut Canvas, Clip) -> Answer) -> (Answer, Vec<u8>) {
-    let mut data = vec![0; (width * height) as usize];
-    let mut canvas = Canvas { format: RGB332, width, height, xor: false, data: &mut data };
-    (call(&mut canvas, clip(0, 0, width, height)), data)
+fn on_black(width: u32, height: u32, call: impl Fn(&mut Canvas) -> Answer) -> (Result<u64, Refusal>, Vec<u8>) {
+    let mut data = vec![0; Rgb332.bytes(width, height)];
+    (landed(call(&mut Canvas::new(Rgb332, width, height, &mut data))), data)
 }
 
 #[test]
-fn a_box_is_shown_and_taken_away() {
-    let mut bytes = vec![0; 240 * 320 * 2];
-    let mut canvas = Canvas { format: RGB565, width: 240, height: 320, xor: true, data: &mut bytes };
-    let red = Color { a: 255, r: 255, g: 0, b: 0 };
-    let whole = Clip { x: 0, y: 0, width: 240, height: 320 };
-    assert_eq!(canvas.draw_rect(20, 30, 100, 50, red, whole), Ok(296));
-    assert_eq!(canvas.get_pixel(20, 30), Ok(Some(red)));
-    assert_eq!(canvas.draw_rect(20, 30, 100, 50, red, whole), Ok(296));
+fn a_box_is_shown_and_taken_away() -> Result<(), Box<dyn Error>> {
+    let mut bytes = vec![0; Format::Rgb565.bytes(240, 320)];
+    let mut canvas = Canvas::new(Format::Rgb565, 240, 320, &mut bytes);
+    let red = Color::rgb(255, 0, 0);
+    canvas.set_xor(true);
+    assert_eq!(canvas.draw_rect(20, 30, 100, 50, red, Clip::whole())?.landed, 296);
+    assert_eq!(canvas.get_pixel(20, 30)?, Some(red));
+    assert_eq!(canvas.draw_rect(20, 30, 100, 50, red, Clip::whole())?.landed, 296);
     assert!(bytes.iter().all(|&byte| byte == 0));
+    Ok(())
 }
 
 /// Where a format keeps alpha, it is 255 after, just where the box was.
 #[test]
 fn xor_is_undone_in_every_format() {
-    for format in [RGB332, RGB565, RGB8, ARGB, ABGR] {
-        let mut before = noise((9 * 7 * SIZES[format as usize]) as usize);
+    for format in [Rgb332, Rgb565, Rgb8, Argb, Abgr] {
+        let mut before = noise(format.bytes(9, 7));
         let mut data = before.clone();
         let mut draw = || {
-            let mut canvas = Canvas { format, width: 9, height: 7, xor: true, data: &mut data };
-            assert_eq!(canvas.fill_rect(-1, 2, 5, 9, WHITE, clip(0, 0, 9, 6)), Ok(16));
+            let mut canvas = Canvas::new(format, 9, 7, &mut data);
+            canvas.set_xor(true);
+            assert_eq!(landed(canvas.fill_rect(-1, 2, 5, 9, WHITE, Clip::new(0, 0, 9, 6))), Ok(16));
             data.clone()
         };
         assert_ne!(draw(), before);
-        if format >= ARGB {
+        if format == Argb || format == Abgr {
             let boxed = (2..6).flat_map(|y| (0..4).map(move |x| 9 * y + x));
             boxed.for_each(|pixel| before[4 * pixel + 3] = 255);
         }
@@ -62,10 +65,10 @@ fn xor_is_undone_in_every_format() {
 fn the_first_sample_has_its_answer() {
     let first = |text: &'static str| text.lines().next();
     assert_eq!(first(include_str!("../../sample/cases")), Some("1 240 320 0 z fill 20 30 100 50 255 200 100 50 0 0 240 320"));
-    let mut data = vec![0; 240 * 320 * 2];
-    let mut canvas = Canvas { format: RGB565, width: 240, height: 320, xor: false, data: &mut data };
-    let color = Color { a: 255, r: 200, g: 100, b: 50 };
-    assert_eq!(canvas.fill_rect(20, 30, 100, 50, color, clip(0, 0, 240, 320)), Ok(5000));
+    let mut data = vec![0; Rgb565.bytes(240, 320)];
+    let mut canvas = Canvas::new(Rgb565, 240, 320, &mut data);
+    let drawn = canvas.fill_rect(20, 30, 100, 50, Color::rgb(200, 100, 50), Clip::new(0, 0, 240, 320));
+    assert_eq!(landed(drawn), Ok(5000));
     let hash = data.iter().fold(0xcbf2_9ce4_8422_2325, |h: u64, &b| (h ^ b as u64).wrapping_mul(0x0100_0000_01b3));
     assert_eq!(hash, 0xc18e_f2d4_4601_bc35);
     let answer = format!("fill status=0 count=5000 hash={hash:016x}");
@@ -74,30 +77,30 @@ fn the_first_sample_has_its_answer() {
 
 #[test]
 fn a_line_and_its_way_back() {
-    let there = on_black(3, 2, |canvas, whole| canvas.draw_line(0, 0, 2, 1, WHITE, whole));
+    let there = on_black(3, 2, |canvas| canvas.draw_line(0, 0, 2, 1, WHITE, Clip::whole()));
     assert_eq!(there, (Ok(3), vec![255, 255, 0, 0, 0, 255]));
-    let back = on_black(3, 2, |canvas, whole| canvas.draw_line(2, 1, 0, 0, WHITE, whole));
+    let back = on_black(3, 2, |canvas| canvas.draw_line(2, 1, 0, 0, WHITE, Clip::whole()));
     assert_eq!(back, (Ok(3), vec![255, 0, 0, 0, 255, 255]));
-    assert_eq!(on_black(4, 4, |canvas, whole| canvas.draw_line(-10, 1, 10, 1, WHITE, whole)).0, Ok(4));
+    assert_eq!(on_black(4, 4, |canvas| canvas.draw_line(-10, 1, 10, 1, WHITE, Clip::whole())).0, Ok(4));
 }
 
 #[test]
 fn arcs_and_pies_of_few_pixels() {
-    let pie = |w, h| on_black(w, h, |canvas, whole| canvas.fill_arc(0, 0, w, h, 0, 360, WHITE, whole));
+    let pie = |w, h| on_black(w, h, |canvas| canvas.fill_arc(0, 0, w, h, 0, 360, WHITE, Clip::whole()));
     assert_eq!(pie(3, 3), (Ok(5), vec![0, 255, 0, 255, 255, 255, 0, 255, 0]));
     assert_eq!(pie(2, 2), (Ok(0), vec![0; 4]));
     assert_eq!(pie(2, 1), (Ok(2), vec![255; 2]));
-    let quarter = on_black(3, 3, |canvas, whole| canvas.fill_arc(0, 0, 3, 3, 0, 90, WHITE, whole));
+    let quarter = on_black(3, 3, |canvas| canvas.fill_arc(0, 0, 3, 3, 0, 90, WHITE, Clip::whole()));
     assert_eq!(quarter, (Ok(3), vec![0, 255, 0, 0, 255, 255, 0, 0, 0]));
-    assert_eq!(on_black(4, 4, |canvas, whole| canvas.draw_arc(-1, -1, 2, 2, 0, 360, WHITE, whole)).0, Ok(3));
+    assert_eq!(on_black(4, 4, |canvas| canvas.draw_arc(-1, -1, 2, 2, 0, 360, WHITE, Clip::whole())).0, Ok(3));
 }
 
 #[test]
 fn round_corners() {
-    let plain = on_black(4, 3, |canvas, whole| canvas.draw_rect(0, 0, 4, 3, WHITE, whole));
+    let plain = on_black(4, 3, |canvas| canvas.draw_rect(0, 0, 4, 3, WHITE, Clip::whole()));
     assert_eq!(plain, (Ok(10), vec![255, 255, 255, 255, 255, 0, 0, 255, 255, 255, 255, 255]));
-    assert_eq!(on_black(4, 3, |canvas, whole| canvas.draw_round_rect(0, 0, 4, 3, 0, 9, WHITE, whole)), plain);
-    let filled = on_black(3, 4, |canvas, whole| canvas.fill_round_rect(0, 0, 3, 4, 2, 2, WHITE, whole));
+    assert_eq!(on_black(4, 3, |canvas| canvas.draw_round_rect(0, 0, 4, 3, 0, 9, WHITE, Clip::whole())), plain);
+    let filled = on_black(3, 4, |canvas| canvas.fill_round_rect(0, 0, 3, 4, 2, 2, WHITE, Clip::whole()));
     assert_eq!(filled, (Ok(8), vec![0, 255, 0, 255, 255, 255, 255, 255, 255, 0, 255, 0]));
 }
 
@@ -106,8 +109,9 @@ fn round_corners() {
 fn a_round_outline_of_one_row() {
     for (xor, middle) in [(false, [255; 2]), (true, [0; 2])] {
         let mut data = [0; 6];
-        let mut canvas = Canvas { format: RGB332, width: 6, height: 1, xor, data: &mut data };
-        assert_eq!(canvas.draw_round_rect(0, 0, 6, 1, 2, 1, WHITE, clip(2, 0, 2, 1)), Ok(4));
+        let mut canvas = Canvas::new(Rgb332, 6, 1, &mut data);
+        canvas.set_xor(xor);
+        assert_eq!(landed(canvas.draw_round_rect(0, 0, 6, 1, 2, 1, WHITE, Clip::new(2, 0, 2, 1))), Ok(4));
         assert_eq!(data[2..4], middle);
     }
 }
@@ -115,37 +119,66 @@ fn a_round_outline_of_one_row() {
 #[test]
 fn areas_and_reading() {
     let mut data = [1, 2, 3, 4, 5, 6];
-    let mut canvas = Canvas { format: RGB332, width: 3, height: 2, xor: true, data: &mut data };
-    let whole = clip(0, 0, 3, 2);
-    assert_eq!(canvas.copy_area(1, 0, 0, 0, 3, 2, whole), Ok(4));
-    assert_eq!(canvas.data, [1, 1, 2, 4, 4, 5]);
-    assert_eq!(canvas.invert_rect(2, 1, 9, 9, whole), Ok(1));
-    assert_eq!(canvas.data, [1, 1, 2, 4, 4, 250]);
-    canvas.data[0] = 0xAD;
-    assert_eq!(canvas.get_pixel(0, 0), Ok(Some(Color { a: 255, r: 180, g: 108, b: 85 })));
+    let mut canvas = Canvas::new(Rgb332, 3, 2, &mut data);
+    canvas.set_xor(true);
+    assert_eq!(landed(canvas.copy_area(1, 0, 0, 0, 3, 2, Clip::whole())), Ok(4));
+    assert_eq!(canvas.data(), [1, 1, 2, 4, 4, 5]);
+    assert_eq!(landed(canvas.invert_rect(2, 1, 9, 9, Clip::whole())), Ok(1));
+    assert_eq!(canvas.data(), [1, 1, 2, 4, 4, 250]);
+    canvas.data_mut()[0] = 0xAD;
+    assert_eq!(canvas.get_pixel(0, 0), Ok(Some(Color::rgb(180, 108, 85))));
     assert_eq!(canvas.get_pixel(3, 0), Ok(None));
-    canvas.xor = false;
-    assert_eq!(canvas.put_pixel(-1, 0, WHITE, whole), Ok(0));
-    assert_eq!(canvas.put_pixel(1, 0, WHITE, whole), Ok(1));
-    assert_eq!(canvas.data[1], 255);
+    canvas.set_xor(false);
+    assert_eq!(landed(canvas.put_pixel(-1, 0, WHITE, Clip::whole())), Ok(0));
+    assert_eq!(landed(canvas.put_pixel(1, 0, WHITE, Clip::whole())), Ok(1));
+    assert_eq!(canvas.data()[1], 255);
 }
 
 /// 200 at alpha 128 over 100 is 150; with XOR on it is 100 that is XORed.
 #[test]
 fn an_image_is_blended() {
-    let words = [0, 0x80C8_C8C8_u32].map(u32::to_le_bytes).concat();
-    let source = Image { format: ARGB, width: 1, height: 2, data: &words };
+    let source = Image::from_argb(1, 2, &[0, 0x80C8_C8C8]);
     for (xor, left) in [(false, 0xFF96_9696), (true, 0xFF00_0000)] {
         let mut data = [7, 0x0064_6464_u32].map(u32::to_le_bytes).concat();
-        let mut canvas = Canvas { format: ARGB, width: 2, height: 1, xor, data: &mut data };
-        assert_eq!(canvas.draw(1, 0, 9, 9, source, 0, 1, clip(0, 0, 2, 1)), Ok(1));
+        let mut canvas = Canvas::new(Argb, 2, 1, &mut data);
+        canvas.set_xor(xor);
+        assert_eq!(landed(canvas.draw(1, 0, 9, 9, source, 0, 1, Clip::whole())), Ok(1));
         assert_eq!(canvas.get_pixel(1, 0), Ok(Some(Color::from_argb(left))));
         assert_eq!(data, [7, left].map(u32::to_le_bytes).concat());
     }
 }
 
-const SOURCE: Image = Image { format: RGB332, width: 1, height: 1, data: &[3] };
-const ALL: Clip = Clip { x: 0, y: 0, width: u32::MAX, height: u32::MAX };
+#[test]
+fn a_canvas_is_drawn_on_another() {
+    let (mut below, mut above) = ([0; 4], [1, 2, 3, 4]);
+    let source = Canvas::new(Rgb332, 2, 2, &mut above);
+    let mut canvas = Canvas::new(Rgb332, 2, 2, &mut below);
+    assert_eq!(landed(canvas.draw(1, 0, 2, 2, source.image(), 0, 0, Clip::whole())), Ok(2));
+    assert_eq!(below, [0, 1, 0, 3]);
+}
+
+#[test]
+fn clips_are_intersected() {
+    let both = |a: [i32; 2], b: [i32; 2]| Clip::new(a[0], a[1], 10, 4).intersect(Clip::new(b[0], b[1], 4, 10));
+    assert_eq!(both([0, 0], [5, 2]), Clip::new(5, 2, 4, 2));
+    assert_eq!(both([i32::MIN, 0], [i32::MAX, 0]), Clip::new(i32::MAX, 0, 0, 4));
+    assert_eq!(Clip::new(-9, -9, 10, 12).intersect(Clip::whole()), Clip::new(0, 0, 1, 3));
+    let (drawn, data) = on_black(2, 2, |canvas| canvas.fill_rect(0, 0, 2, 2, WHITE, both([0, 0], [1, 1])));
+    assert_eq!((drawn, data), (Ok(1), vec![0, 0, 0, 255]));
+}
+
+/// What is held shows its fields, and of bytes how many there are.
+#[test]
+fn values_are_shown() {
+    let mut data = [0; 8];
+    let shown = format!("{:?}", Canvas::new(Rgb565, 2, 2, &mut data));
+    assert_eq!(shown, "Canvas { format: Rgb565, width: 2, height: 2, xor: false, bytes: 8 }");
+    assert_eq!(format!("{:?}", Image::new(Rgb332, 0, 3, &[])), "Image { format: Rgb332, width: 0, height: 3, bytes: 0 }");
+    assert_eq!(format!("{:?}", Clip::new(-1, 0, 2, 3)), "Clip { x: -1, y: 0, width: 2, height: 3 }");
+}
+
+const SOURCE: Image = Image::new(Rgb332, 1, 1, &[3]);
+const ALL: Clip = Clip::whole();
 
 /// Every call that draws.
 const CALLS: [fn(&mut Canvas) -> Answer; 11] = [
@@ -163,11 +196,12 @@ const CALLS: [fn(&mut Canvas) -> Answer; 11] = [
 ];
 
 /// The number of a call on a canvas of noise, whose bytes are as before just where that is not 0.
-fn number(sides: [u32; 3], length: usize, call: impl Fn(&mut Canvas) -> Answer) -> u32 {
-    let [format, width, height] = sides;
+fn number(format: Format, [width, height]: [u32; 2], length: usize, call: impl Fn(&mut Canvas) -> Answer) -> u32 {
     let before = noise(length);
     let mut data = before.clone();
-    let answer = call(&mut Canvas { format, width, height, xor: true, data: &mut data });
+    let mut canvas = Canvas::new(format, width, height, &mut data);
+    canvas.set_xor(true);
+    let answer = call(&mut canvas);
     assert_eq!(answer.is_err(), data == before);
     answer.map_or_else(Refusal::number, |_| 0)
 }
@@ -175,40 +209,47 @@ fn number(sides: [u32; 3], length: usize, call: impl Fn(&mut Canvas) -> Answer) 
 #[test]
 fn every_call_refuses_a_canvas() {
     for call in CALLS {
-        assert_eq!([4, 5].map(|format| number([format, 4, 4], 64, call)), [0, 1]);
-        assert_eq!([32_767, 32_768].map(|width| number([0, width, 1], width as usize, call)), [0, 2]);
-        assert_eq!([32_767, 32_768].map(|height| number([0, 2, height], 2 * height as usize, call)), [0, 2]);
-        assert_eq!([31, 32, 33].map(|length| number([1, 4, 4], length, call)), [3, 0, 3]);
-        assert_eq!(number([5, 32_768, 1], 0, call), 1);
-        assert_eq!(number([1, 32_768, 1], 0, call), 2);
-        assert_eq!(number([1, 1, 1], 0, call), 3);
+        assert_eq!([32_767, 32_768].map(|width| number(Rgb332, [width, 1], width as usize, call)), [0, 2]);
+        assert_eq!([32_767, 32_768].map(|height| number(Rgb332, [2, height], 2 * height as usize, call)), [0, 2]);
+        assert_eq!([31, 32, 33].map(|length| number(Rgb565, [4, 4], length, call)), [3, 0, 3]);
+        assert_eq!(number(Rgb565, [32_768, 1], 0, call), 2);
+        assert_eq!(number(Rgb565, [1, 1], 0, call), 3);
+        for format in [Rgb332, Rgb565, Rgb8, Argb, Abgr] {
+            let length = format.bytes(5, 3);
+            assert_eq!([length - 1, length, length + 1].map(|length| number(format, [5, 3], length, call)), [3, 0, 3]);
+        }
     }
 }
 
 #[test]
 fn reading_refuses_a_canvas() {
-    for (format, width, length, refusal) in
-        [(5, 4, 64, Refusal::Format), (0, 32_768, 32_768, Refusal::Size), (0, 4, 3, Refusal::Length)]
-    {
-        let canvas = Canvas { format, width, height: 1, xor: false, data: &mut noise(length) };
-        assert_eq!(canvas.get_pixel(0, 0), Err(refusal));
-    }
+    let read = |width, length| Canvas::new(Rgb332, width, 1, &mut noise(length)).get_pixel(0, 0).map(|_| ());
+    assert_eq!([32_767, 32_768].map(|width| read(width, width as usize)), [Ok(()), Err(Refusal::Size)]);
+    assert_eq!([3, 4, 5].map(|length| read(4, length)), [Err(Refusal::Length), Ok(()), Err(Refusal::Length)]);
 }
 
 #[test]
 fn a_source_is_refused() {
     let data = &noise(32_768)[..];
-    let drawn = |source: Image| number([1, 4, 4], 32, |c| c.draw(0, 0, 4, 4, source, 0, 0, ALL));
-    assert_eq!([4, 5].map(|format| drawn(Image { format, width: 2, height: 2, data: &data[..16] })), [0, 4]);
-    assert_eq!([32_767, 32_768].map(|width| drawn(Image { format: 0, width, height: 1, data: &data[..width as usize] })), [0, 4]);
-    assert_eq!([7, 8, 9].map(|length| drawn(Image { format: 1, width: 2, height: 2, data: &data[..length] })), [4, 0, 4]);
+    let drawn = |source: Image| number(Rgb565, [4, 4], 32, |c| c.draw(0, 0, 4, 4, source, 0, 0, ALL));
+    assert_eq!([32_767, 32_768].map(|width| drawn(Image::new(Rgb332, width, 1, &data[..width as usize]))), [0, 4]);
+    assert_eq!([7, 8, 9].map(|length| drawn(Image::new(Rgb565, 2, 2, &data[..length]))), [4, 0, 4]);
+}
+
+/// Numbers that are no format do not become one; the others come back as they were.
+#[test]
+fn formats_have_their_numbers() {
+    for number in 0..5 {
+        assert_eq!(Format::try_from(number).map(Format::number), Ok(number));
+    }
+    assert_eq!([5, u32::MAX].map(Format::try_from), [Err(Refusal::Format); 2]);
 }
 
 #[test]
 fn an_angle_is_refused() {
     let tried = |w, start, arc| {
-        let drawn = number([1, 4, 4], 32, |c| c.draw_arc(0, 0, w, 4, start, arc, WHITE, ALL));
-        let filled = number([1, 4, 4], 32, |c| c.fill_arc(0, 0, w, 4, start, arc, WHITE, ALL));
+        let drawn = number(Rgb565, [4, 4], 32, |c| c.draw_arc(0, 0, w, 4, start, arc, WHITE, ALL));
+        let filled = number(Rgb565, [4, 4], 32, |c| c.fill_arc(0, 0, w, 4, start, arc, WHITE, ALL));
         [drawn, filled]
     };
     assert_eq!([-721, -720, 720, 721].map(|start| tried(4, start, 200)), [[5; 2], [0; 2], [0; 2], [5; 2]]);
@@ -225,7 +266,7 @@ fn a_shape_is_refused() {
             &|c| c.draw_round_rect(x, y, w, h, 2, 2, WHITE, ALL),
             &|c| c.fill_round_rect(x, y, w, h, 2, 2, WHITE, ALL),
         ];
-        calls.map(|call| number([1, 4, 4], 32, call))
+        calls.map(|call| number(Rgb565, [4, 4], 32, call))
     };
     assert_eq!([32_767, 32_768].map(|w| tried([-16_383, 0], [w, 4])), [[0; 4], [6; 4]]);
     assert_eq!([32_767, 32_768].map(|h| tried([0, -16_383], [4, h])), [[0; 4], [6; 4]]);
@@ -238,8 +279,8 @@ fn a_shape_is_refused() {
 #[test]
 fn the_farthest_corners_are_accepted() {
     for [x, y] in [[-32_768, 0], [32_767, 0], [0, -32_768], [0, 32_767]] {
-        let drawn = on_black(4, 4, |canvas, whole| canvas.draw_arc(x, y, 4, 4, 0, 360, WHITE, whole));
-        let filled = on_black(4, 4, |canvas, whole| canvas.fill_round_rect(x, y, 4, 4, 2, 2, WHITE, whole));
+        let drawn = on_black(4, 4, |canvas| canvas.draw_arc(x, y, 4, 4, 0, 360, WHITE, Clip::whole()));
+        let filled = on_black(4, 4, |canvas| canvas.fill_round_rect(x, y, 4, 4, 2, 2, WHITE, Clip::whole()));
         assert_eq!(drawn, (Ok(0), vec![0; 16]));
         assert_eq!(filled, drawn);
     }
@@ -266,7 +307,7 @@ fn bitmaps_are_refused() {
         let mut out = vec![7; room];
         let answer = decode_lbmp(file, &mut out);
         assert_eq!(answer.is_err(), out.iter().all(|&word| word == 7));
-        answer.map_or_else(LbmpRefusal::number, |_| 0)
+        answer.map_or_else(Refusal::number, |_| 0)
     };
     let whole = file([8, 2, 2, 4, 1], &[1, 2, 3, 4, 0, 1]);
     assert_eq!([4, 3].map(|room| tried(&whole, room)), [0, 12]);
@@ -287,23 +328,43 @@ fn icons_are_found_and_drawn() {
     let frames = [3, 2, 1, 8, 0, 0, 0, 0, 2, 1, 2, 3, 4];
     let file = icons(&[&frames, &[2, 3, 2, 8, 0, 0, 0, 0], &[10, 11, 12, 13, 14, 15], b"more"]);
     let icon = decode_res(&file).unwrap();
-    assert_eq!(icon, Image { format: RGB332, width: 3, height: 2, data: &[10, 11, 12, 13, 14, 15] });
-    assert_eq!(icon.data.as_ptr(), file[29..].as_ptr());
-    let (drawn, screen) = on_black(4, 3, |canvas, whole| canvas.draw(1, 1, 3, 2, icon, 0, 0, whole));
+    assert_eq!(icon, Image::new(Rgb332, 3, 2, &[10, 11, 12, 13, 14, 15]));
+    assert_eq!(icon.data().as_ptr(), file[29..].as_ptr());
+    let (drawn, screen) = on_black(4, 3, |canvas| canvas.draw(1, 1, 3, 2, icon, 0, 0, Clip::whole()));
     assert_eq!((drawn, screen), (Ok(6), vec![0, 0, 0, 0, 0, 10, 11, 12, 0, 13, 14, 15]));
     let none = icons(&[&[2, 0, 9, 8, 0, 0, 0, 0]]);
-    assert_eq!(decode_res(&none), Ok(Image { format: RGB332, width: 0, height: 9, data: &[] }));
+    assert_eq!(decode_res(&none), Ok(Image::new(Rgb332, 0, 9, &[])));
 }
 
 #[test]
 fn icons_are_refused() {
-    let tried = |file: &[u8]| decode_res(file).map_or_else(ResRefusal::number, |_| 0);
+    let tried = |file: &[u8]| decode_res(file).map_or_else(Refusal::number, |_| 0);
     let whole = icons(&[&[3, 1, 1, 8, 0, 0, 0, 0, 1, 7], &[2, 1, 1, 8, 0, 0, 0, 0, 7]]);
     assert_eq!([27, 26, 25, 18, 17, 16, 15, 8, 7, 0].map(|n| tried(&whole[..n])), [0, 13, 16, 16, 16, 13, 16, 16, 13, 13]);
     let record = |kind, depth| tried(&icons(&[&[kind, 1, 1, depth, 0, 0, 0, 0, 7]]));
     assert_eq!([1, 2, 3, 4].map(|kind| record(kind, 8)), [15, 0, 16, 15]);
     assert_eq!([1, 2, 3, 4].map(|kind| record(kind, 16)), [14; 4]);
     assert_eq!(tried(&[b"\xDE\xAD\xFA\xCE", &whole[4..]].concat()), 13);
+}
+
+/// The header's constant of a name, as it is written.
+fn defined(name: &str) -> Option<&'static str> {
+    let words = include_str!("../../include/tuyrashka.h").lines().map(|line| line.split_whitespace().collect::<Vec<_>>());
+    words.filter(|words| words.len() > 2 && words[..2] == ["#define", name]).map(|words| words[2]).next()
+}
+
+#[test]
+fn the_header_has_the_same_numbers() {
+    let same = |name: &dyn std::fmt::Debug, number: u32| {
+        let name = format!("TUYRASHKA_{name:?}").to_uppercase();
+        assert_eq!(defined(&name), Some(format!("{number}u").as_str()), "{name}");
+    };
+    [Rgb332, Rgb565, Rgb8, Argb, Abgr].iter().for_each(|format| same(format, format.number()));
+    use Refusal::{Angle, Depth, Invalid, Length, NoIcon, Res, ResType, Room, Shape, Size, Source, Type};
+    let refusals = [Refusal::Format, Size, Length, Source, Angle, Shape, Invalid, Type, Room, Res, Depth, ResType, NoIcon];
+    refusals.iter().for_each(|refusal| same(refusal, refusal.number()));
+    let version = option_env!("CARGO_PKG_VERSION").map(|version| format!("{version:?}"));
+    assert!(version.is_none_or(|version| defined("TUYRASHKA_VERSION") == Some(version.as_str())));
 }
 
 #[test]

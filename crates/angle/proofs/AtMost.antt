@@ -11,8 +11,8 @@ use lib.Ieee.Fits.{down-pos, round-is}
 use lib.Ieee.Exact.{HasValue}
 use lib.Ieee.Back.{round-whole}
 use lib.Ieee.Order.{round-mono, drop, kept}
-use Rattle.number.proofs.Range.{le-yes}
-use Rattle.number.proofs.Negated.{neg-round}
+use Rattle.floats.proofs.Range.{le-yes}
+use Rattle.floats.proofs.Negated.{neg-round}
 
 -- x is a number, K in size at most
 abbrev pub AtMost : Float → ℕ → Type 0

@@ -5,7 +5,7 @@ use mathlib.Core.Bool.{false}
 use Prim.Native.Nat.{_+_, _/_}
 use lib.IntN.{pos, negsuc, negℤ, pow, one}
 use lib.Ieee.{fin, binary32, ofBits, toBits, round, neg, add, sub, mul, div, le, lt, eq}
-use Rattle.number.specs.Size.{plusZero, absOf, signOf}
+use Rattle.floats.specs.Size.{plusZero, absOf, signOf}
 use Rattle.angle.specs.Meaning.{H, nearestK, rest, whole, coef, term, terms, mod4, placed, sine, cosine}
 use Rattle.angle.specs.Sine.{countedOf, restOf, sizeOf, offOf, sizedOf, tinyOf, sineFrom, sineOn, cosineFrom, cosineOn, narrowOf, sineAt, cosineAt, sineOfSize, cosineOfSize, sineOf, cosineOf}
 use Rattle.angle.specs.Arctangent.{evenOf, oddOf, lessOf, fromOf, pastOne, ofRatio, directionOf, arctangentOf}

@@ -8,7 +8,7 @@ use native.Mathlib.Omega.{arith}
 use lib.Dec.{T, leb, leb→le, nleb→lt}
 use lib.IntN.{ℤ, pos, negsuc, _-ℤ_, _*ℤ_}
 use Rattle.angle.specs.Meaning.{H, signed, rest}
-use Rattle.number.proofs.Powers.{like}
+use Rattle.floats.proofs.Powers.{like}
 use Rattle.angle.proofs.Signs.{product, less, short}
 use Rattle.angle.proofs.Placing.{H-pos, Around, k-at}
 

@@ -10,7 +10,7 @@ use lib.IntN.{ℤ, pos, negsuc, negℤ, _+ℤ_, _-ℤ_, _*ℤ_, pow, negℤ-neg�
 use lib.Signed.{shrZ}
 use lib.Ieee.{unlike}
 use Rattle.angle.specs.Meaning.{D, H, signed, nearestK, rest, terms, mod4, placed, sine, cosine}
-use Rattle.number.proofs.Powers.{like}
+use Rattle.floats.proofs.Powers.{like}
 use Rattle.angle.proofs.Signs.{plus, product, less, short}
 use Rattle.angle.proofs.Terms.{terms-are, sinAt, cosAt}
 

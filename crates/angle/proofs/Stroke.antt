@@ -11,7 +11,7 @@ use lib.Ieee.{Float, nan, inf, fin, binary32, up, down, ofBits, mul, div, ofInt,
 use lib.Ieee.Fits.{down-pos}
 use lib.Ieee.Back.{round-whole}
 use mathlib.Core.Bool.{false}
-use Rattle.number.specs.Degrees.{degree, radiansOf}
+use Rattle.floats.specs.Degrees.{degree, radiansOf}
 use Rattle.angle.specs.Meaning.{D, UpTo26}
 use Rattle.angle.specs.Stroke.{radians, strokeAngle}
 use Rattle.angle.proofs.AtMost.{AtMost, round-most, int-most, mul-most, div-most, add-most}

@@ -7,8 +7,8 @@ use Prim.Native.Nat.{ℕ, _+_, _*_, _/_, _%_, _<_, min}
 use lib.Dec.{T, leb, eqb}
 use lib.IntN.{pos}
 use lib.Ieee.{Float, nan, inf, fin, binary32, ofBits, up, down, add, sub, mul, div, neg, lt, le, eq}
-use Rattle.number.specs.Size.{plusZero, absOf, signOf}
-use Rattle.number.specs.Degrees.{radiansOf}
+use Rattle.floats.specs.Size.{plusZero, absOf, signOf}
+use Rattle.floats.specs.Degrees.{radiansOf}
 use Rattle.angle.specs.Meaning.{parts, sine, cosine, Along}
 
 -- ---- the polynomial

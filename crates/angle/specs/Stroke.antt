@@ -2,7 +2,7 @@
 use Prim.Native.Nat.{ℕ}
 use lib.IntN.{ℤ, pos}
 use lib.Ieee.{Float, binary32, ofInt, add, mul, div}
-use Rattle.number.specs.Degrees.{radiansOf}
+use Rattle.floats.specs.Degrees.{radiansOf}
 
 -- Whole degrees in radians.
 abbrev pub radians : ℤ → Float

@@ -60,8 +60,8 @@ fn direction(up: f32, right: f32) -> f32
     ensures { λ r. ⌜ r ≡ directionOf up right ⌝ }
 {
     if up == 0.0 {
-        if number::is_sign_negative(right) {
-            if number::is_sign_negative(up) {
+        if floats::is_sign_negative(right) {
+            if floats::is_sign_negative(up) {
                 return -3.14159274101257324;
             }
             return 3.14159274101257324;
@@ -74,7 +74,7 @@ fn direction(up: f32, right: f32) -> f32
         }
         return 1.57079637050628662;
     }
-    let a = of_ratio(number::abs(up / right));
+    let a = of_ratio(floats::abs(up / right));
     if right < 0.0 {
         let b = a + 0.0000000874227765;
         if up < 0.0 {

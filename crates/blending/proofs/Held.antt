@@ -12,10 +12,10 @@ use lib.Ieee.{Float, nan, inf, fin, binary32, up, down, size, nearest, units, ro
 use lib.Ieee.Fits.{down-pos, core, nearest-le, round-is}
 use lib.Ieee.Exact.{HasValue, units-val, round-exact}
 use lib.Ieee.Nearest.{nearest-ge}
-use Rattle.number.specs.Size.{plusZero}
-use Rattle.number.specs.Whole.{asU8}
-use Rattle.number.proofs.Range.{yes, no}
-use Rattle.number.proofs.Shown.{size-is, is-number}
+use Rattle.floats.specs.Size.{plusZero}
+use Rattle.floats.specs.Whole.{asU8}
+use Rattle.floats.proofs.Range.{yes, no}
+use Rattle.floats.proofs.Ones.{size-is, is-number}
 use Rattle.blending.specs.Inner.{most, raised, lowered}
 use Rattle.blending.specs.Blend.{channel}
 

@@ -10,8 +10,8 @@ use lib.Ieee.{Float, nan, inf, fin, binary32, up, down, round, add, sub, mul, di
 use lib.Ieee.Fits.{down-pos}
 use lib.Ieee.Exact.{HasValue}
 use lib.Ieee.Scale.{round-same}
-use Rattle.number.specs.Size.{plusZero}
-use Rattle.number.specs.Whole.{asU8}
+use Rattle.floats.specs.Size.{plusZero}
+use Rattle.floats.specs.Whole.{asU8}
 use Rattle.words.specs.declared.Color.{Color}
 use Rattle.words.specs.Word.{color}
 use Rattle.words.proofs.Laws.{Channels}

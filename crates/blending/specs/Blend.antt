@@ -5,7 +5,7 @@ use lib.Dec.{eqb}
 use lib.Bits.{bitOr}
 use lib.IntN.{pos}
 use lib.Ieee.{Float, binary32, ofInt, add, sub, mul, div}
-use Rattle.number.specs.Whole.{asU8}
+use Rattle.floats.specs.Whole.{asU8}
 use Rattle.words.specs.declared.Color.{Color}
 use Rattle.words.specs.Format.{Format}
 use Rattle.words.specs.Word.{color, fromColor, toColor}

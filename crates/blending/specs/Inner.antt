@@ -5,8 +5,8 @@ use mathlib.Core.Bool.{cond, false}
 use Prim.Native.Nat.{ℕ, _%_, _<_}
 use lib.IntN.{pos}
 use lib.Ieee.{Float, fin, binary32, lt, add, mul}
-use Rattle.number.specs.Size.{plusZero}
-use Rattle.number.specs.Whole.{asU8}
+use Rattle.floats.specs.Size.{plusZero}
+use Rattle.floats.specs.Whole.{asU8}
 use Rattle.words.specs.Format.{argb}
 use Rattle.words.specs.declared.Color.{Color}
 use Rattle.words.specs.Word.{color, toColor}

@@ -1,6 +1,6 @@
 // A float cut to a byte, without a branch.
 ghost use mathlib.Core.Path.{_≡_};
-ghost use Rattle.number.specs.Whole.{asU8};
+ghost use Rattle.floats.specs.Whole.{asU8};
 ghost use Rattle.blending.specs.Inner.{raised, lowered};
 
 fn at_least_0(x: f32) -> f32

@@ -26,6 +26,7 @@ use Rattle.canvas.proofs.faults.or_else.Reads as or-else
 use Rattle.canvas.proofs.faults.judge.Reads as judge
 use Rattle.canvas.proofs.faults.begin.Reads as begin
 use Rattle.canvas.proofs.span.lift.Reads as lift
+use Rattle.canvas.proofs.span.signed.Reads as signed
 use Rattle.canvas.proofs.span.overlap.Reads as overlap
 use Rattle.canvas.proofs.span.window.Reads as window
 use Rattle.canvas.proofs.span.shown_in.Reads as shown-in
@@ -147,6 +148,9 @@ begin-determined κs a s s' r r' p q = p ∙ sym q
 
 pub lift-determined : (κs : _) (a : _) (s s' : _) (r r' : _) → lift.Post κs a r s → lift.Post κs a r' s' → r ≡ r'
 lift-determined κs a s s' r r' p q = p ∙ sym q
+
+pub signed-determined : (κs : _) (a : _) (s s' : _) (r r' : _) → signed.Post κs a r s → signed.Post κs a r' s' → r ≡ r'
+signed-determined κs a s s' r r' p q = p ∙ sym q
 
 pub overlap-determined : (κs : _) (a : _) (s s' : _) (r r' : _) → overlap.Post κs a r s → overlap.Post κs a r' s' → r ≡ r'
 overlap-determined κs a s s' r r' p q = p ∙ sym q

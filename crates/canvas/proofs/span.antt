@@ -2,5 +2,6 @@
 pub mod Lifts
 pub mod Spans
 pub mod Differences
+pub mod Signs
 pub mod Sources
 pub mod Corners

@@ -3,7 +3,7 @@ use mathlib.Core.Bool.{Bool, cond, _&&_}
 use Prim.Native.Nat.{ℕ}
 use lib.IntN.{ℤ, pos, _+ℤ_, _-ℤ_}
 use lib.Signed.{leZ, ltZ}
-use Rattle.number.specs.Whole.{atLeast0}
+use Rattle.floats.specs.Whole.{atLeast0}
 use Rattle.canvas.specs.declared.Clip.{Clip}
 
 -- p is one of the n whole numbers from a on.

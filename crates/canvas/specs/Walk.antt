@@ -6,6 +6,7 @@ use Prim.Native.Nat.{ℕ, _+_, _-_, _<_, _≤_, min, max}
 use lib.Dec.{leb, ltb}
 use lib.IntN.{ℤ, pos, negsuc, subℕ}
 use lib.Signed.{leZ, ltZ}
+unfoldable pub use Rattle.floats.specs.Whole.{lifted}
 use Rattle.words.specs.declared.Ink.{Ink}
 use Rattle.words.specs.Format.{range}
 use Rattle.words.specs.Ink.{inked}
@@ -20,11 +21,7 @@ use Rattle.pixels.specs.Rows.{run}
 use Rattle.canvas.specs.Plot.{Point, Plot, plot, Fate, landed, outside, clipped, fate, hitOf}
 use Rattle.pixels.specs.Hits.{touch}
 
--- A signed number of 32 bits as one that is not negative, 2^31 above it; and back.
-unfoldable pub lifted : ℤ → ℕ
-lifted (pos n) = 2147483648 + n
-lifted (negsuc n) = 2147483647 - n
-
+-- A lifted number again as a signed one.
 unfoldable pub lowered : ℕ → ℤ
 lowered p = subℕ p 2147483648
 

@@ -31,13 +31,11 @@ pub(crate) fn landed_more(t: Tally, n: u64) -> Tally
 
 // Whether a lifted number is one of a span.
 fn is_covered(s: Span, p: u64) -> bool
-    requires { ⌜ (s .from ≤ 32767) × (s .to ≤ 32767) ⌝ }
+    requires { ⌜ (s .from ≤ s .to) × (s .to ≤ 32767) ⌝ }
     ensures { λ r. ⌜ r ≡ covers s (lowered p) ⌝ }
 {
-    if p < 2147483648 + s.from as u64 {
-        return false;
-    }
-    p < 2147483648 + s.to as u64
+    let past = std::num::wrapping_sub_u64(p, 2147483648 + s.from as u64);
+    past < (s.to - s.from) as u64
 }
 
 // A plot at a lifted point that can land on some columns and rows alone. The bytes of a word, n, are a literal in each

@@ -2,10 +2,22 @@
 ghost use mathlib.Core.Path.{_≡_};
 ghost use Prim.Native.Nat.{_+_, _-_, _≤_, _<_, min, max};
 ghost use lib.IntN.{pos, _+ℤ_};
+ghost use mir.Syntax.{w32};
+ghost use mir.Val.{toZ};
 ghost use Rattle.canvas.specs.Clip.{within, inClip, larger, shared};
 ghost use Rattle.canvas.specs.Walk.{lifted, lowered, cutOf};
 use crate::Clip;
 use pixels::rows::Span;
+
+// The i32 with these 32 bits: the number itself below 2^31, else 2^32 less.
+pub fn signed(n: u32) -> i32
+    ensures { λ r. ⌜ r ≡ toZ w32 n ⌝ }
+{
+    if n < 2147483648 {
+        return n as i32;
+    }
+    (n as i64 - 4294967296) as i32
+}
 
 // 2^31 above a signed number.
 fn raised(x: i32) -> i64

@@ -12,10 +12,10 @@ use lib.IntN.{ℤ, pos, negsuc, negℤ, natAbs, subℕ, _+ℤ_, _-ℤ_, negℤ-n
 use lib.Ieee.{Float, nan, inf, fin, binary32, up, down, round, add, sub, div, ofInt, lt, le, below}
 use lib.Ieee.Fits.{down-pos}
 use lib.Ieee.Exact.{HasValue}
-use Rattle.number.specs.Size.{one, maxOf}
+use Rattle.floats.specs.Size.{one, maxOf}
 use Rattle.angle.specs.Meaning.{signed}
 use Rattle.angle.proofs.Signs.{opposite, plus, less, short}
-use Rattle.curves.specs.Ovals.{half, two}
+use Rattle.curves.specs.Oval.{half, two}
 use Rattle.curves.specs.Corners.{radiusOf, nearestCentre, inRound}
 use Rattle.curves.specs.Bulges.{reach, partOn, hasAt, roundSide, Sided}
 use Rattle.curves.proofs.Offsets.{Half, add-half, sub-half, int-half, half-of, regroup, cancel}

@@ -1,5 +1,5 @@
 -- No two answers meet the contract of a public function: each is an equation for the answer, or says that it is the first of its
--- kind. Only `sines_from` is lent what it writes.
+-- kind. Only `spots_from` is lent what it writes.
 use mathlib.Core.Path.{_≡_, sym, _∙_}
 use denote.Ref.{now}
 use Rattle.curves.proofs.Runs.{one-next}
@@ -12,12 +12,11 @@ use Rattle.curves.proofs.corners.corner.Reads as corner
 use Rattle.curves.proofs.corners.corners_in.Reads as corners-in
 use Rattle.curves.proofs.corners.inset.Reads as inset
 use Rattle.curves.proofs.corners.radius.Reads as radius
-use Rattle.curves.proofs.ovals.oval_in.Reads as oval-in
+use Rattle.curves.proofs.oval.oval_in.Reads as oval-in
 use Rattle.curves.proofs.pies.pie_in.Reads as pie-in
 use Rattle.curves.proofs.pies.all_round.Reads as all-round
 use Rattle.curves.proofs.pies.next.Reads as next
-use Rattle.curves.proofs.strokes.sines_from.Reads as sines-from
-use Rattle.curves.proofs.strokes.spot_at.Reads as spot-at
+use Rattle.curves.proofs.strokes.spots_from.Reads as spots-from
 use Rattle.curves.proofs.strokes.steps.Reads as steps
 
 corner-determined : (κs : _) (a : _) (s s' : _) (r r' : _) → corner.Post κs a r s → corner.Post κs a r' s' → r ≡ r'
@@ -47,12 +46,9 @@ next-determined κs a s s' r r' p q = one-next p q
 steps-determined : (κs : _) (a : _) (s s' : _) (r r' : _) → steps.Post κs a r s → steps.Post κs a r' s' → r ≡ r'
 steps-determined κs a s s' r r' p q = p .0 ∙ sym (q .0)
 
-sines-from-determined : (κs : _) (a : _) (s s' : _) (r r' : _) → sines-from.Post κs a r s → sines-from.Post κs a r' s'
-    → (now (s .1 .1 .1 .1 .0) ≡ now (s' .1 .1 .1 .1 .0)) × (now (s .1 .1 .1 .1 .1 .0) ≡ now (s' .1 .1 .1 .1 .1 .0))
-sines-from-determined κs a s s' r r' p q = (p .0 ∙ sym (q .0), p .1 ∙ sym (q .1))
-
-spot-at-determined : (κs : _) (a : _) (s s' : _) (r r' : _) → spot-at.Post κs a r s → spot-at.Post κs a r' s' → r ≡ r'
-spot-at-determined κs a s s' r r' p q = p ∙ sym q
+spots-from-determined : (κs : _) (a : _) (s s' : _) (r r' : _) → spots-from.Post κs a r s → spots-from.Post κs a r' s'
+    → (now (s .1 .1 .1 .1 .1 .0) ≡ now (s' .1 .1 .1 .1 .1 .0)) × (now (s .1 .1 .1 .1 .1 .1 .0) ≡ now (s' .1 .1 .1 .1 .1 .1 .0))
+spots-from-determined κs a s s' r r' p q = (p .0 ∙ sym (q .0), p .1 ∙ sym (q .1))
 
 part-determined : (κs : _) (a : _) (s s' : _) (r r' : _) → part.Post κs a r s → part.Post κs a r' s' → r ≡ r'
 part-determined κs a s s' r r' p q = p ∙ sym q

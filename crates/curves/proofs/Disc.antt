@@ -12,10 +12,10 @@ use lib.Ieee.{Float, nan, inf, fin, binary32, up, down, round, add, div, ofInt, 
 use lib.Ieee.Fits.{down-pos}
 use lib.Ieee.Exact.{HasValue}
 use lib.Ieee.Scale.{round-same}
-use Rattle.number.specs.Size.{one, maxOf}
+use Rattle.floats.specs.Size.{one, maxOf}
 use Rattle.angle.specs.Meaning.{signed}
 use Rattle.angle.proofs.Signs.{size, less, short}
-use Rattle.curves.specs.Ovals.{half, halfAxis, offset}
+use Rattle.curves.specs.Oval.{half, halfAxis, offset}
 use Rattle.curves.specs.Pies.{sweepOf, inSweep, inPie, pieOf, covers}
 use Rattle.curves.specs.declared.bulges.Side.{Side}
 use Rattle.curves.specs.Bulges.{far, reach, partAt, partOn, hasAt, pieSide, Sided, Rising}

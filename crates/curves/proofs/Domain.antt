@@ -13,9 +13,9 @@ use lib.Signed.{leZ, ltZ}
 use lib.Ieee.{Float, nan, inf, fin, binary32, up, down, round, neg, add, mul, sum, lt, unlike}
 use lib.Ieee.Fits.{down-pos, and-l}
 use lib.Ieee.Exact.{HasValue, round-exact}
-use Rattle.number.specs.Size.{one}
+use Rattle.floats.specs.Size.{one}
 use Rattle.angle.specs.Arctangent.{isHalves, halvesOf, Domain}
-use Rattle.curves.specs.Ovals.{offset}
+use Rattle.curves.specs.Oval.{offset}
 use Rattle.curves.specs.Pies.{Inside}
 use Rattle.curves.proofs.Offsets.{pie-right, pie-up}
 

@@ -14,8 +14,8 @@ use lib.Ieee.Exact.{HasValue}
 use lib.Ieee.Back.{round-whole}
 use lib.Ieee.Order.{round-mono, transfer, le-of-values}
 use lib.Ieee.Scale.{round-same}
-use Rattle.number.specs.Size.{plusZero}
-use Rattle.number.specs.Degrees.{turn, remEuclid360}
+use Rattle.floats.specs.Size.{plusZero}
+use Rattle.floats.specs.Degrees.{turn, remEuclid360}
 use Rattle.angle.specs.Meaning.{D}
 use Rattle.angle.proofs.arctangent.Ops.{D-pos, Near, rounds}
 

@@ -5,11 +5,11 @@ use mathlib.Core.List.{[], _∷_}
 use Prim.Native.Nat.{ℕ}
 use lib.IntN.{pos}
 use lib.Ieee.{Float, binary32, isNan, ofBits, ofInt, add, sub, mul, div, lt, le}
-use Rattle.number.specs.Degrees.{radiansOf}
-use Rattle.number.specs.Size.{plusZero, one, absOf, maxOf}
-use Rattle.number.specs.Whole.{roundSize, roundAs, ceilSize}
-use Rattle.curves.specs.Ovals.{halfAxis, centre, offset, ovalOf}
-use Rattle.curves.specs.Strokes.{strokeRadius, stepsOf, spotOf}
+use Rattle.floats.specs.Degrees.{radiansOf}
+use Rattle.floats.specs.Size.{plusZero, one, absOf, maxOf}
+use Rattle.floats.specs.Whole.{roundSize, roundAs, ceilSize}
+use Rattle.curves.specs.Oval.{halfAxis, centre, offset, ovalOf}
+use Rattle.curves.specs.Strokes.{strokeRadius, stepsOf, xAt, yAt, spotOf}
 use Rattle.curves.specs.Pies.{sweepOf, inSweep, inPie}
 use Rattle.curves.specs.Corners.{radiusOf, insetOf, cornersOf, nearestCentre, inRound}
 
@@ -48,7 +48,7 @@ fourteen = refl
 
 -- A quarter turn on, a stroke is at the top.
 top : spotOf (ovalOf (pos 0) (pos 0) 9 9) (record { sine = one; cosine = plusZero }) ≡ record { x = pos 4; y = pos 0 }
-unfolding spotOf ovalOf centre halfAxis roundAs roundSize ofInt add sub mul div lt
+unfolding spotOf xAt yAt ovalOf centre halfAxis roundAs roundSize ofInt add sub mul div lt
 top = refl
 
 -- A radius of a half is an inset of 1.

@@ -13,10 +13,10 @@ use lib.IntN.{pos}
 use lib.Ieee.{Float, nan, inf, fin, binary32, up, down, below, neg, sub, ofInt, lt, eq}
 use lib.Ieee.Exact.{HasValue}
 use lib.Ieee.Fits.{down-pos}
-use Rattle.number.specs.Size.{plusZero, absOf, signOf}
-use Rattle.number.specs.Whole.{ceilSize}
-use Rattle.number.proofs.Powers.{of-int}
-use Rattle.number.proofs.Signs.{abs-neg}
+use Rattle.floats.specs.Size.{plusZero, absOf, signOf}
+use Rattle.floats.specs.Whole.{ceilSize}
+use Rattle.floats.proofs.Powers.{of-int}
+use Rattle.floats.proofs.Signs.{abs-neg}
 use Rattle.angle.specs.Meaning.{D}
 use Rattle.angle.specs.Arctangent.{arctangentOf, Domain}
 use Rattle.angle.proofs.arctangent.Ops.{D-pos}

@@ -9,7 +9,7 @@ use native.Mathlib.Omega.{arith}
 use native.Mathlib.Decide.{decLt}
 use lib.Dec.{T}
 use lib.Ieee.{Float, nan, inf, fin, binary32, up, down, round, add, sum, le}
-use Rattle.number.specs.Size.{one}
+use Rattle.floats.specs.Size.{one}
 use Rattle.curves.specs.declared.bulges.Side.{Side}
 use Rattle.curves.specs.Bulges.{far, partOn, hasAt, Sided, Rising, Run}
 use Rattle.curves.proofs.Rising.{plain, add-plain, add-mono, le-chain}

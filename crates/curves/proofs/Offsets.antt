@@ -13,9 +13,9 @@ use lib.Ieee.Fits.{down-pos, and-i, eq→eqb}
 use lib.Ieee.Exact.{HasValue, round-exact}
 use Rattle.angle.specs.Meaning.{signed}
 use Rattle.angle.specs.Arctangent.{isHalves, halvesOf}
-use Rattle.number.proofs.Powers.{like}
+use Rattle.floats.proofs.Powers.{like}
 use Rattle.angle.proofs.Signs.{size, none, opposite, plus, less, short, apart}
-use Rattle.curves.specs.Ovals.{halfAxis, centre, offset}
+use Rattle.curves.specs.Oval.{halfAxis, centre, offset}
 
 -- x is z halves, K of them at most
 pub record Half (x : Float) (z : ℤ) (K : ℕ) : Type 0 where

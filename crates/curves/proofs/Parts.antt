@@ -5,7 +5,7 @@ use Prim.Native.Nat.{ℕ}
 use lib.IntN.{ℤ, pos}
 use lib.Ieee.{binary32, ofInt}
 use Rattle.curves.specs.declared.pies.Pie.{Pie}
-use Rattle.curves.specs.Ovals.{offset, ovalOf}
+use Rattle.curves.specs.Oval.{offset, ovalOf}
 use Rattle.curves.specs.Pies.{sweepOf, inSweep, pieOf, allRound, covers}
 
 pub covers-is : (x y : ℤ) (w h : ℕ) (start sweep : ℤ) (i j : ℕ)

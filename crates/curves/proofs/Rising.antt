@@ -15,8 +15,8 @@ use lib.Ieee.Exact.{HasValue}
 use lib.Ieee.Order.{drop, kept, round-mono}
 use lib.Ieee.Positive.{through}
 use lib.Ieee.Scale.{round-same}
-use Rattle.number.proofs.Negated.{neg-round}
-use Rattle.number.proofs.Powers.{like}
+use Rattle.floats.proofs.Negated.{neg-round}
+use Rattle.floats.proofs.Powers.{like}
 
 ruleset ring = (mul-add, add-mul, mul-assoc, mul-comm, mul-left-comm)
 

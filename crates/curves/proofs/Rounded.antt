@@ -7,9 +7,9 @@ use borrow.Author.Tests.{lt-ltb}
 use lib.IntN.{pos}
 use lib.Ieee.{Float, nan, inf, fin, binary32, up, down, ofInt, div, lt, isNan}
 use lib.Ieee.Fits.{down-pos}
-use Rattle.number.specs.Size.{maxOf}
-use Rattle.number.specs.Whole.{roundSize, roundAs}
-use Rattle.curves.specs.Ovals.{half}
+use Rattle.floats.specs.Size.{maxOf}
+use Rattle.floats.specs.Whole.{roundSize, roundAs}
+use Rattle.curves.specs.Oval.{half}
 use Rattle.curves.specs.Corners.{radiusOf, insetOf}
 
 not-negative : (x : Float) → roundAs 31 (maxOf x half) ≡ pos (insetOf (maxOf x half))

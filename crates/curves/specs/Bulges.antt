@@ -5,7 +5,7 @@ use mathlib.Core.Bool.{Bool, true, false}
 use Prim.Native.Nat.{ℕ, _+_, _-_, _*_, _≤_, _<_, min, max}
 use lib.IntN.{pos}
 use lib.Ieee.{Float, binary32, ofInt, add, mul, div, le}
-use Rattle.number.specs.Size.{one}
+use Rattle.floats.specs.Size.{one}
 use Rattle.curves.specs.declared.bulges.Side.{Side}
 
 -- How far the i-th of n places lies from their middle, in halves.

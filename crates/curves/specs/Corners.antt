@@ -3,11 +3,11 @@ use Prim.Native.Nat.{ℕ, _-_, min}
 use mathlib.Core.Bool.{Bool, cond}
 use lib.IntN.{ℤ, pos, _+ℤ_}
 use lib.Ieee.{Float, binary32, ofInt, add, sub, mul, div, lt, le}
-use Rattle.number.specs.Size.{one, maxOf}
-use Rattle.number.specs.Whole.{roundAs, atLeast0}
-use Rattle.curves.specs.declared.ovals.Oval.{Oval}
+use Rattle.floats.specs.Size.{one, maxOf}
+use Rattle.floats.specs.Whole.{roundAs, atLeast0}
+use Rattle.curves.specs.declared.oval.Oval.{Oval}
 use Rattle.curves.specs.declared.corners.Corners.{Corners}
-use Rattle.curves.specs.Ovals.{half, two}
+use Rattle.curves.specs.Oval.{half, two}
 
 -- "radii rx, ry are half the smaller of arc size and box, at least 0.5"
 unfoldable pub radiusOf : ℕ → ℕ → Float

@@ -1,4 +1,4 @@
-pub mod Ovals
+pub mod Oval
 pub mod Strokes
 pub mod Pies
 pub mod Corners

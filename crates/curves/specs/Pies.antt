@@ -6,14 +6,14 @@ use lib.Dec.{leb}
 use lib.IntN.{ℤ, pos, natAbs, _+ℤ_}
 use lib.Signed.{leZ, ltZ}
 use lib.Ieee.{Float, fin, binary32, ofInt, neg, add, sub, mul, div, lt, le, eq}
-use Rattle.number.specs.Size.{plusZero, one, absOf, maxOf, signOf}
-use Rattle.number.specs.Degrees.{turn, remEuclid360}
-use Rattle.number.specs.Whole.{ceilSize}
+use Rattle.floats.specs.Size.{plusZero, one, absOf, maxOf, signOf}
+use Rattle.floats.specs.Degrees.{turn, remEuclid360}
+use Rattle.floats.specs.Whole.{ceilSize}
 use Rattle.angle.specs.Arctangent.{arctangentOf, Domain}
 use Rattle.curves.specs.declared.pies.Sweep.{Sweep}
 use Rattle.curves.specs.declared.pies.Degrees.{Degrees}
 use Rattle.curves.specs.declared.pies.Pie.{Pie}
-use Rattle.curves.specs.Ovals.{half, halfAxis, offset, ovalOf}
+use Rattle.curves.specs.Oval.{half, halfAxis, offset, ovalOf}
 
 -- ---- the sweep, in degrees
 
@@ -26,11 +26,13 @@ sweepOf start sweep = record {
   length = cond (lt plusZero sweep) sweep (neg sweep);
 }
 
--- "distance squared below 1 is in; else the angle less the start, brought into 0..360 in f32 .., is at most the sweep"
+-- "the angle less the start, brought into 0..360 in f32 .., is at most the sweep"
+unfoldable pub inArc : Sweep → Float → Float → Bool
+inArc s dx dy = le (remEuclid360 (sub binary32 (arctangentOf (neg dy) dx) (s .start))) (s .length)
+
+-- "distance squared below 1 is in; else the angle .."
 unfoldable pub inSweep : Sweep → Float → Float → Bool
-inSweep s dx dy =
-    cond (s .all) true (cond (s .none) false (cond (lt (add binary32 (mul binary32 dx dx) (mul binary32 dy dy)) one) true
-    (le (remEuclid360 (sub binary32 (arctangentOf (neg dy) dx) (s .start))) (s .length))))
+inSweep s dx dy = cond (s .all) true (cond (s .none) false (cond (lt (add binary32 (mul binary32 dx dx) (mul binary32 dy dy)) one) true (inArc s dx dy)))
 
 -- ---- the whole test
 
@@ -62,10 +64,6 @@ flankOf up right = cond (lt right plusZero) (cond (lt (absOf right) (absOf up)) 
 
 abbrev pub eighthOf : Float → Float → ℕ
 eighthOf up right = cond (signOf up) (7 - flankOf up right) (flankOf up right)
-
--- The last test of a sweep, that of the angle.
-unfoldable pub inArc : Sweep → Float → Float → Bool
-inArc s dx dy = le (remEuclid360 (sub binary32 (arctangentOf (neg dy) dx) (s .start))) (s .length)
 
 unfoldable pub pieOf : ℤ → ℤ → ℕ → ℕ → ℤ → ℤ → Pie
 pieOf x y w h start sweep =

@@ -3,7 +3,7 @@ ghost use mathlib.Core.Path.{_≡_};
 ghost use mathlib.Core.Bool.{cond};
 ghost use Prim.Native.Nat.{min};
 ghost use Rattle.curves.specs.Corners.{radiusOf, insetOf, cornersOf, cornerOf};
-use crate::ovals::Oval;
+use crate::oval::Oval;
 
 // The centres' columns and rows, and the radii.
 pub struct Corners {
@@ -29,14 +29,14 @@ pub fn radius(arc: u32, side: u32) -> f32
     ensures { λ r. ⌜ r ≡ radiusOf arc side ⌝ }
 {
     let n = smaller(arc, side);
-    number::max(std::num::nearest_u32_to_f32(n) / 2.0, 0.5)
+    floats::max(std::num::nearest_u32_to_f32(n) / 2.0, 0.5)
 }
 
 // How far in from the corners a straight edge starts and ends: round(radius).
 pub fn inset(radius: f32) -> u32
     ensures { λ r. ⌜ r ≡ insetOf radius ⌝ }
 {
-    let n = number::round_i32(radius);
+    let n = floats::round_i32(radius);
     if n < 0 {
         return 0;
     }

@@ -3,12 +3,12 @@ ghost use mathlib.Core.Path.{_≡_};
 ghost use mathlib.Core.Bool.{false};
 ghost use Prim.Native.Nat.{_+_, _*_, _%_, _≤_, _<_};
 ghost use lib.Ieee.{binary32, neg, add, mul, lt};
-ghost use Rattle.number.specs.Size.{one};
+ghost use Rattle.floats.specs.Size.{one};
 ghost use Rattle.angle.specs.Arctangent.{Domain};
 ghost use Rattle.curves.specs.Pies.{sweepOf, inArc, inSweep, pieOf, allRound, covers, Next};
 ghost use Rattle.curves.specs.Pies.{isWhole, degreesOf, flankOf, eighthOf, Swept};
-use crate::ovals::Oval;
-use crate::ovals::oval_in;
+use crate::oval::Oval;
+use crate::oval::oval_in;
 
 // The degrees that a pie covers: all, none, or `length` of them from `start` on.
 pub struct Sweep {
@@ -35,7 +35,7 @@ pub struct Pie {
 fn sweep_of(start: f32, sweep: f32) -> Sweep
     ensures { λ r. ⌜ r ≡ sweepOf start sweep ⌝ }
 {
-    let all = number::abs(sweep) >= 360.0;
+    let all = floats::abs(sweep) >= 360.0;
     let none = sweep == 0.0;
     if sweep > 0.0 {
         return Sweep {
@@ -75,8 +75,8 @@ fn is_whole(s: Sweep, n: u64, length: u64) -> bool
 fn degrees_of(s: Sweep) -> Degrees
     ensures { λ r. ⌜ r ≡ degreesOf s ⌝ }
 {
-    let n = number::ceil_size(1440.0 - s.start);
-    let length = number::ceil_size(s.length);
+    let n = floats::ceil_size(1440.0 - s.start);
+    let length = floats::ceil_size(s.length);
     let whole = is_whole(s, n, length);
     Degrees {
         whole,
@@ -132,7 +132,7 @@ pub fn all_round() -> Pie
 fn flank(up: f32, right: f32) -> u64
     ensures { λ r. ⌜ r ≡ flankOf up right ⌝ }
 {
-    let far = number::abs(up);
+    let far = floats::abs(up);
     if right < 0.0 {
         if -right < far {
             return 2;
@@ -150,7 +150,7 @@ fn eighth(up: f32, right: f32) -> u64
     ensures { λ r. ⌜ r ≡ eighthOf up right ⌝ }
 {
     let e = flank(up, right);
-    if number::is_sign_negative(up) {
+    if floats::is_sign_negative(up) {
         return 7 - e;
     }
     e
@@ -161,7 +161,7 @@ fn in_arc(s: Sweep, dx: f32, dy: f32) -> bool
     ensures { λ r. ⌜ r ≡ inArc s dx dy ⌝ }
 {
     let angle = angle::arctangent::arctangent(-dy, dx);
-    number::rem_euclid_360(angle - s.start) <= s.length
+    floats::rem_euclid_360(angle - s.start) <= s.length
 }
 
 // How far past a sweep's start an eighth of a turn begins.

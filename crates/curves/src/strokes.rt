@@ -5,10 +5,10 @@ ghost use Prim.Native.Nat.{_+_, _*_, _≤_, max};
 ghost use lib.IntN.{pos};
 ghost use lib.ListN.{length};
 ghost use lib.Ieee.{binary32, ofInt, add, mul, div};
+ghost use Rattle.floats.specs.Whole.{lifted};
 ghost use Rattle.angle.specs.Sine.{sineOf, cosineOf};
-ghost use Rattle.curves.specs.Strokes.{stepsOf, spotOf, anglesFrom};
-use crate::ovals::Oval;
-use angle::sine::SineCosine;
+ghost use Rattle.curves.specs.Strokes.{stepsOf, xAt, yAt, anglesFrom, spotsFrom, columns, rows};
+use crate::oval::Oval;
 
 // The most steps on a canvas of these sides.
 fn most_steps(width: u32, height: u32) -> u64
@@ -25,8 +25,8 @@ fn most_steps(width: u32, height: u32) -> u64
 pub fn steps(o: Oval, sweep: f32, width: u32, height: u32) -> u64
     ensures { λ r. ⌜ (r ≡ stepsOf o sweep width height) × (1 ≤ r) × (r ≤ 16 * max (width + height) 1) ⌝ }
 {
-    let radius = number::max(number::max(o.a, o.b), 1.0);
-    let n = number::ceil_size(number::abs(sweep) * radius) * 2;
+    let radius = floats::max(floats::max(o.a, o.b), 1.0);
+    let n = floats::ceil_size(floats::abs(sweep) * radius) * 2;
     let most = most_steps(width, height);
     if n < 1 {
         return 1;
@@ -82,28 +82,39 @@ fn sines_of(ts: &[f32], ss: &mut [f32], cs: &mut [f32])
     }
 }
 
-// The sines and the cosines at 16 steps, from step i on; start and sweep are in radians. A loop for each part of the work
-// lets the machine do several at once.
-pub fn sines_from(start: f32, sweep: f32, i: u32, steps: u32, ss: &mut [f32], cs: &mut [f32])
-    requires { ⌜ (i ≤ 0x10_0000) × ((length (now ss) ≡ 16) × (length (now cs) ≡ 16)) ⌝ }
-    ensures { λ _. ⌜ (now (ss .exit) ≡ map sineOf (anglesFrom start sweep steps i 16)) × (now (cs .exit) ≡ map cosineOf (anglesFrom start sweep steps i 16)) ⌝ }
+// The points of 16 sines and cosines, lifted.
+fn spots_of(o: Oval, ss: &[f32], cs: &[f32], ps: &mut [u32], qs: &mut [u32])
+    requires { ⌜ (length (now ss) ≡ 16) × (length (now cs) ≡ 16) ⌝ }
+    requires { ⌜ (length (now ps) ≡ 16) × (length (now qs) ≡ 16) ⌝ }
+    ensures { λ _. ⌜ now (ps .exit) ≡ map (λ c. lifted (xAt o c)) (now (cs .entry)) ⌝ }
+    ensures { λ _. ⌜ now (qs .exit) ≡ map (λ s. lifted (yAt o s)) (now (ss .entry)) ⌝ }
+{
+    let mut j = 0;
+    while j < 16 {
+        ps[j] = floats::round_lifted(o.cx + o.a * cs[j]);
+        qs[j] = floats::round_lifted(o.cy - o.b * ss[j]);
+        j = j + 1;
+    }
+}
+
+// The points at 16 steps, from step i on, lifted; start and sweep are in radians. A loop for each part of the work lets the
+// machine do several at once.
+pub fn spots_from(
+    o: Oval,
+    start: f32,
+    sweep: f32,
+    i: u32,
+    steps: u32,
+    ps: &mut [u32],
+    qs: &mut [u32],
+)
+    requires { ⌜ (i ≤ 0x10_0000) × ((length (now ps) ≡ 16) × (length (now qs) ≡ 16)) ⌝ }
+    ensures { λ _. ⌜ (now (ps .exit) ≡ columns (spotsFrom o start sweep steps i 16)) × (now (qs .exit) ≡ rows (spotsFrom o start sweep steps i 16)) ⌝ }
 {
     let mut ts = [0.0f32; 16];
+    let mut ss = [0.0f32; 16];
+    let mut cs = [0.0f32; 16];
     angles(start, sweep, i, steps, &mut ts);
-    sines_of(&ts, ss, cs);
-}
-
-pub struct Spot {
-    pub x: i32,
-    pub y: i32,
-}
-
-// The point at an angle of this sine and cosine.
-pub fn spot_at(o: Oval, t: SineCosine) -> Spot
-    ensures { λ r. ⌜ r ≡ spotOf o t ⌝ }
-{
-    Spot {
-        x: number::round_i32(o.cx + o.a * t.cosine),
-        y: number::round_i32(o.cy - o.b * t.sine),
-    }
+    sines_of(&ts, &mut ss, &mut cs);
+    spots_of(o, &ss, &cs, ps, qs);
 }

@@ -14,7 +14,7 @@ use lib.Ieee.{Float, binary32, neg, add, mul, lt, fits}
 use lib.Ieee.Fits.{add-fits}
 use Rattle.words.specs.declared.Color.{Color}
 use Rattle.words.proofs.Either.{neither}
-use Rattle.number.specs.Size.{one}
+use Rattle.floats.specs.Size.{one}
 use Rattle.angle.specs.Meaning.{Close, parts, sine, cosine}
 use Rattle.angle.specs.Sine.{sineOf, cosineOf, sineCosineOf}
 use Rattle.angle.specs.Arctangent.{arctangentOf, Arctangent}
@@ -22,9 +22,9 @@ use Rattle.angle.specs.Stroke.{radians, strokeAngle}
 use Rattle.angle.proofs.Stroke.{stroke-up-to-26}
 use Rattle.angle.proofs.sine.Within.{sine-close, cosine-close}
 use Rattle.angle.proofs.arctangent.Asked.{asked}
-use Rattle.curves.specs.declared.ovals.Oval.{Oval}
+use Rattle.curves.specs.declared.oval.Oval.{Oval}
 use Rattle.curves.specs.declared.corners.Corners.{Corners}
-use Rattle.curves.specs.Ovals.{offset, ovalOf}
+use Rattle.curves.specs.Oval.{offset, ovalOf}
 use Rattle.curves.specs.Corners.{cornerOf}
 use Rattle.curves.specs.Strokes.{stepsOf, spotOf, strokePoint}
 use Rattle.curves.specs.Pies.{Inside}

@@ -4,7 +4,7 @@ use mathlib.Core.Bool.{Bool, false, cond, not, _&&_}
 use mathlib.Core.List.{List, [], _∷_, _++_, flatMap}
 use Prim.Native.Nat.{ℕ, zero, suc, _+_, _-_, _≤_, _<_}
 use lib.IntN.{pos}
-use lib.Ieee.{Float, nan}
+use lib.Ieee.{Float}
 use lib.ListN.{length, getD}
 use Rattle.angle.specs.Stroke.{radians}
 use Rattle.curves.specs.declared.corners.Corners.{Corners}
@@ -14,13 +14,11 @@ use Rattle.curves.specs.Bulges.{partOn, hasAt}
 use Rattle.curves.specs.declared.pies.Pie.{Pie}
 use Rattle.curves.specs.Pies.{degreesOf, covers, Asked}
 use Rattle.pixels.specs.declared.Canvas.{Canvas}
-use Rattle.canvas.specs.Plot.{Point}
-use Rattle.curves.specs.declared.ovals.Oval.{Oval}
-use Rattle.curves.specs.Strokes.{spotOf}
-use Rattle.ovals.specs.Strokes.{pointOf, stroke}
+use Rattle.canvas.specs.Plot.{Point, at}
+use Rattle.ovals.specs.Strokes.{stroke}
 use Rattle.pixels.specs.Hits.{Hit, paint}
 use Rattle.pixels.specs.Rows.{mark, flat}
-use Rattle.canvas.specs.Walk.{plus, Work, work}
+use Rattle.canvas.specs.Walk.{lowered, plus, Work, work}
 
 -- A hit on a pixel that passes a test, and those of a part of a row and of a box.
 unfoldable pub sift : (ℕ → ℕ → Bool) → (ℕ → ℕ) → ℕ → ℕ → List Hit
@@ -42,10 +40,10 @@ half v c low first second =
     let quarter = radians (pos 90) in
     stroke v (cornerOf c (not low) low) first quarter ++ stroke v (cornerOf c low low) second quarter
 
--- n of the points of sines and cosines, from the k-th on.
-unfoldable pub spotsAt : Oval → List Float → List Float → ℕ → ℕ → List Point
-spotsAt o ss cs k zero = []
-spotsAt o ss cs k (suc n) = pointOf (spotOf o (record { sine = getD ss k nan; cosine = getD cs k nan })) ∷ spotsAt o ss cs (suc k) n
+-- n of the points with these columns and rows, which are lifted, from the k-th on.
+unfoldable pub spotsAt : List ℕ → List ℕ → ℕ → ℕ → List Point
+spotsAt ps qs k zero = []
+spotsAt ps qs k (suc n) = at (lowered (getD ps k 0)) (lowered (getD qs k 0)) ∷ spotsAt ps qs (suc k) n
 
 -- Whether a region with these sides, its corner lifted, and with the sweep of this pie takes a pixel.
 abbrev pub regionAt : Side → Side → Pie → ℕ → ℕ → ℕ → ℕ → Bool

@@ -6,11 +6,10 @@ use lib.Dec.{eqb}
 use lib.IntN.{ℤ, pos, _+ℤ_}
 use lib.Ieee.{Float}
 use Rattle.angle.specs.Stroke.{radians}
-use Rattle.curves.specs.declared.ovals.Oval.{Oval}
-use Rattle.curves.specs.declared.strokes.Spot.{Spot}
+use Rattle.curves.specs.declared.oval.Oval.{Oval}
 use Rattle.curves.specs.declared.corners.Corners.{Corners}
-use Rattle.curves.specs.Ovals.{ovalOf}
-use Rattle.curves.specs.Strokes.{stepsOf, strokePoint}
+use Rattle.curves.specs.Oval.{ovalOf}
+use Rattle.curves.specs.Strokes.{Spot, stepsOf, strokePoint}
 use Rattle.curves.specs.Corners.{radiusOf, insetOf, cornersOf, cornerOf}
 use Rattle.pixels.specs.declared.Canvas.{Canvas}
 use Rattle.canvas.specs.Plot.{Point, at}

@@ -2,18 +2,17 @@
 ghost use mathlib.Core.Path.{_≡_};
 ghost use Prim.Native.Nat.{suc, _≤_, _<_, min};
 ghost use lib.ListN.{length};
-ghost use Rattle.number.specs.Degrees.{radiansOf};
+ghost use Rattle.floats.specs.Degrees.{radiansOf};
 ghost use Rattle.words.specs.Ink.{inked};
 ghost use Rattle.pixels.specs.Bytes.{size, Sized};
 ghost use Rattle.canvas.specs.Plot.{inks};
-ghost use Rattle.ovals.specs.Strokes.{pointOf, strokeFrom, stroke, arc};
+ghost use Rattle.ovals.specs.Strokes.{strokeFrom, stroke, arc};
 ghost use Rattle.ovals.specs.Sift.{spotsAt};
 ghost use Rattle.ovals.specs.Call.{drawArc};
 ghost use Rattle.canvas.specs.Call.{leaves, call};
-ghost use Rattle.canvas.specs.Walk.{plus, work, dabbed, dabs, Fits, Did, Fields};
+ghost use Rattle.canvas.specs.Walk.{plus, work, dabs, Fits, Did, Fields};
 ghost use Rattle.ovals.specs.Sift.{half};
 use crate::faults::arc_fault;
-use angle::sine::SineCosine;
 use canvas::Clip;
 use canvas::Drawn;
 use canvas::Tally;
@@ -21,60 +20,36 @@ use canvas::boxes::is_empty;
 use canvas::faults::Start;
 use canvas::faults::begin;
 use canvas::plot::dab;
-use canvas::span::lift;
 use canvas::span::window;
 use curves::corners::Corners;
 use curves::corners::corner;
-use curves::ovals::Oval;
-use curves::strokes::Spot;
+use curves::oval::Oval;
 use pixels::Canvas;
 use pixels::rows::Span;
 use words::Color;
 use words::Ink;
 
-// The plot of one point.
-fn dab_spot(
-    canvas: Canvas,
-    b: &mut [u8],
-    xs: Span,
-    ys: Span,
-    n: usize,
-    s: Spot,
-    ink: Ink,
-    t: Tally,
-) -> Tally
-    requires { ⌜ (Sized canvas (now b)) × ((Fields canvas xs ys) × ((n ≡ size canvas) × (Fits (plus t 1)))) ⌝ }
-    ensures { λ r. ⌜ work (now (b .exit)) r ≡ dabbed canvas xs ys (inked ink) (pointOf s) (work (now (b .entry)) t) ⌝ }
-{
-    let p = lift(s.x);
-    let q = lift(s.y);
-    dab(canvas, b, xs, ys, n, p, q, ink, t)
-}
-
-// The plots of m points, whose sines and cosines are given.
+// The plots of m points, whose columns and rows are given, lifted.
 fn dab_spots(
     canvas: Canvas,
     b: &mut [u8],
     xs: Span,
     ys: Span,
     n: usize,
-    o: Oval,
-    ss: &[f32],
-    cs: &[f32],
+    ps: &[u32],
+    qs: &[u32],
     m: usize,
     ink: Ink,
     t0: Tally,
 ) -> Tally
-    requires { ⌜ (Sized canvas (now b)) × ((Fields canvas xs ys) × ((n ≡ size canvas) × ((m ≤ 16) × ((length (now ss) ≡ 16) × ((length (now cs) ≡ 16) × (Fits (plus t0 m))))))) ⌝ }
-    ensures { λ r. ⌜ work (now (b .exit)) r ≡ dabs canvas xs ys (inked ink) (spotsAt o (now (ss .entry)) (now (cs .entry)) 0 m) (work (now (b .entry)) t0) ⌝ }
+    requires { ⌜ (Sized canvas (now b)) × ((Fields canvas xs ys) × ((n ≡ size canvas) × (m ≤ 16))) ⌝ }
+    requires { ⌜ (length (now ps) ≡ 16) × ((length (now qs) ≡ 16) × (Fits (plus t0 m))) ⌝ }
+    ensures { λ r. ⌜ work (now (b .exit)) r ≡ dabs canvas xs ys (inked ink) (spotsAt (now (ps .entry)) (now (qs .entry)) 0 m) (work (now (b .entry)) t0) ⌝ }
 {
     let mut t = t0;
     let mut j = 0;
     while j < m {
-        let sine = ss[j];
-        let cosine = cs[j];
-        let s = curves::strokes::spot_at(o, SineCosine { sine, cosine });
-        t = dab_spot(canvas, b, xs, ys, n, s, ink, t);
+        t = dab(canvas, b, xs, ys, n, ps[j] as u64, qs[j] as u64, ink, t);
         j = j + 1;
     }
     t
@@ -107,14 +82,14 @@ fn stroke_steps(
     requires { ⌜ (Sized canvas (now b)) × ((Fields canvas xs ys) × ((n ≡ size canvas) × ((steps ≤ 1048544) × (t0 .landed < 9223372036854775808)))) ⌝ }
     ensures { λ r. ⌜ work (now (b .exit)) r ≡ dabs canvas xs ys (inked ink) (strokeFrom o start sweep steps 0 (suc steps)) (work (now (b .entry)) t0) ⌝ }
 {
-    let mut ss = [0.0f32; 16];
-    let mut cs = [0.0f32; 16];
+    let mut ps = [0u32; 16];
+    let mut qs = [0u32; 16];
     let mut t = t0;
     let mut i = 0u32;
     while i <= steps {
-        curves::strokes::sines_from(start, sweep, i, steps, &mut ss, &mut cs);
+        curves::strokes::spots_from(o, start, sweep, i, steps, &mut ps, &mut qs);
         let m = up_to_16(steps + 1 - i);
-        t = dab_spots(canvas, b, xs, ys, n, o, &ss, &cs, m as usize, ink, t);
+        t = dab_spots(canvas, b, xs, ys, n, &ps, &qs, m as usize, ink, t);
         i = i + m;
     }
     t
@@ -165,9 +140,9 @@ fn arc_in(
     if is_empty(w, h) {
         return t;
     }
-    let o = curves::ovals::oval_in(x, y, w, h);
-    let from = number::radians(std::num::nearest_i32_to_f32(start));
-    let turn = number::radians(std::num::nearest_i32_to_f32(sweep));
+    let o = curves::oval::oval_in(x, y, w, h);
+    let from = floats::radians(std::num::nearest_i32_to_f32(start));
+    let turn = floats::radians(std::num::nearest_i32_to_f32(sweep));
     stroke_in(canvas, b, o, from, turn, ink, clip, t)
 }
 
@@ -225,9 +200,9 @@ pub(crate) fn half_in(
     requires { ⌜ (Sized canvas (now b)) × (t .landed < 4611686018427387904) ⌝ }
     ensures { λ r. ⌜ Did canvas clip (inks (inked ink) (half canvas c low (radiansOf first) (radiansOf second))) (work (now (b .entry)) t) (work (now (b .exit)) r) ⌝ }
 {
-    let quarter = number::radians(90.0);
-    let from = number::radians(first);
-    let then = number::radians(second);
+    let quarter = floats::radians(90.0);
+    let from = floats::radians(first);
+    let then = floats::radians(second);
     let o = corner(c, !low, low);
     let u = corner(c, low, low);
     let n = stroke_in(canvas, b, o, from, quarter, ink, clip, t);

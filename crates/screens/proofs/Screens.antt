@@ -3,7 +3,7 @@ use mathlib.Core.Path.{refl}
 use Rattle.words.specs.Word.{fromColor, level5, level6, toColor}
 use Rattle.words.specs.Ink.{keepsAlpha, xorColor, plotWord}
 use lib.Ieee.{ofInt, neg, add, sub, mul, div, lt, eq}
-use Rattle.number.specs.Whole.{roundSize, roundAs}
+use Rattle.floats.specs.Whole.{roundSize, roundAs}
 use Rattle.segments.specs.Cut.{near, inside, kept, narrowed, parameters, end, clipSegment}
 use Rattle.canvas.specs.Clip.{shared, intersection, within, inClip}
 use Rattle.canvas.specs.Plot.{tint, dip, onCanvas, fate, hits}

@@ -7,8 +7,8 @@ use lib.Ieee.{Float, binary64, add, sub, mul, div, neg, lt, eq}
 use mir.Syntax.{w32}
 use mir.Val.{SFits, toZ, ofZ}
 use mir.ValLaws.{toZ-ofZ}
-use Rattle.number.specs.Size.{plusZero, one}
-use Rattle.number.proofs.Rounds.{round-fits}
+use Rattle.floats.specs.Size.{plusZero, one}
+use Rattle.floats.proofs.Rounds.{round-fits}
 use Rattle.segments.specs.declared.Cut.{Cut}
 use Rattle.segments.specs.declared.Cut.the-variants as cut
 use Rattle.segments.specs.declared.Clipped.{Clipped}

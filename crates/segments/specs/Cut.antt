@@ -4,8 +4,8 @@ use Prim.Native.Nat.{ℕ}
 use lib.IntN.{ℤ, pos, negsuc}
 use lib.Signed.{leZ}
 use lib.Ieee.{Float, binary64, ofInt, neg, add, sub, mul, div, lt, eq}
-use Rattle.number.specs.Size.{plusZero, one}
-use Rattle.number.specs.Whole.{roundAs}
+use Rattle.floats.specs.Size.{plusZero, one}
+use Rattle.floats.specs.Whole.{roundAs}
 use Rattle.segments.specs.declared.Segment.{Segment}
 use Rattle.segments.specs.declared.Cut.{Cut}
 use Rattle.segments.specs.declared.Cut.the-variants as cut

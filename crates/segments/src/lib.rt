@@ -100,7 +100,7 @@ fn end_at(first: i32, second: i32, t: f64) -> i32
 {
     let f = first as f64;
     let d = second as f64 - f;
-    number::round_i32_f64(f + d * t)
+    floats::round_i32_f64(f + d * t)
 }
 
 // Whether both ends are inside.

@@ -1,31 +1,22 @@
--- From the answer on a file to C's numbers.
+-- From the answer on a bitmap file to C's numbers and records.
 use mathlib.Core.Path.{_≡_, sym, ap, _∙_}
+use mathlib.Core.List.{List}
 use Prim.Native.Nat.{ℕ}
-use denote.Ref.{now}
 use Rattle.lbmp.specs.declared.Image.{Image}
 use Rattle.lbmp.specs.declared.Judged.{Judged}
 use Rattle.lbmp.specs.declared.Judged.the-variants.{Refused, Sound}
 use Rattle.lbmp.specs.declared.Refusal.{Refusal}
 use Rattle.lbmp.specs.Faults.{number}
-use Rattle.lbmp.specs.Call.{reading, reads, Outcome}
-use Rattle.tuyrashka.proofs.bitmap.tuyrashka_decode_lbmp.Reads as decode-lbmp
+use Rattle.lbmp.specs.Call.{reads, Outcome, outcome}
+use Rattle.tuyrashka.specs.Exported.{sizeOf, givesBitmap}
 
-pub told-refused : (j : Judged) (r : Refusal) (n : ℕ) → j ≡ Refused r → n ≡ number r → reading n 0 0 0 ≡ reads j
-unfolding reads
-told-refused j r n e g = ap (λ (k : ℕ). reading k 0 0 0) g ∙ sym (ap reads e)
+module _ (j : Judged) (ws : List ℕ) (o : Outcome) (e : outcome (reads j) ws ≡ o) (z : List ℕ) where
+  pub told-refused : (r : Refusal) (n : ℕ) → j ≡ Refused r → n ≡ number r → z ≡ sizeOf 0 0
+      → _≡_ {A = ℕ × (List ℕ × (ℕ × List ℕ))} (n, (z, (0, ws))) (givesBitmap o)
+  unfolding reads givesBitmap
+  told-refused r n p q s = rw (q, s) (ap givesBitmap (ap (λ (k : Judged). outcome (reads k) ws) (sym p) ∙ e))
 
-pub told-sound : (j : Judged) (i : Image) → j ≡ Sound i → reading 0 (i .width) (i .height) (i .clear) ≡ reads j
-unfolding reads
-told-sound j i e = sym (ap reads e)
-
--- No two outcomes satisfy the contract of the exported function.
-pub decode-lbmp-determined : (κs : _) (a : _) (s s' : _) (r r' : _) → decode-lbmp.Post κs a r s → decode-lbmp.Post κs a r' s'
-    → (r ≡ r') × (now (s .1 .1 .0) ≡ now (s' .1 .1 .0)) × (now (s .1 .1 .1 .0) ≡ now (s' .1 .1 .1 .0)) × (now (s .1 .1 .1 .1 .0) ≡ now (s' .1 .1 .1 .1 .0)) × (now (s .1 .0) ≡ now (s' .1 .0))
-decode-lbmp-determined κs a s s' r r' p q =
-    let e = p ∙ sym q in (
-      ap (λ (o : Outcome). o .answer .status) e,
-      ap (λ (o : Outcome). o .answer .width) e,
-      ap (λ (o : Outcome). o .answer .height) e,
-      ap (λ (o : Outcome). o .answer .clear) e,
-      ap (λ (o : Outcome). o .words) e,
-    )
+  pub told-sound : (i : Image) → j ≡ Sound i → z ≡ sizeOf (i .width) (i .height)
+      → _≡_ {A = ℕ × (List ℕ × (ℕ × List ℕ))} (0, (z, (i .clear, ws))) (givesBitmap o)
+  unfolding reads givesBitmap
+  told-sound i p s = rw s (ap givesBitmap (ap (λ (k : Judged). outcome (reads k) ws) (sym p) ∙ e))

@@ -132,11 +132,13 @@ pub fn between(op: &str, list: &mut Vec<String>) {
 }
 
 /// Pies of which a pixel is nearly on an edge: on a phone's screen, and of one pixel those on the axes and the diagonals and
-/// the five in each eighth of a turn that are nearest to a whole degree.
+/// the five in each eighth of a turn that are nearest to a whole degree. Of one more the last digit of the arctangent's smallest
+/// coefficient decides it.
 pub fn beside(list: &mut Vec<String>) {
     for shape in ["181 188 0 262", "181 188 278 90", "224 225 0 43"] {
         list.push(format!("0 240 320 0 z pie 0 0 {shape} 255 255 255 255 0 0 240 320"));
     }
+    list.push("0 1 1 0 z pie -4360 -10570 17440 17440 143 60 255 255 255 255 0 0 1 1".to_string());
     let straight = |d: &Direction| d.right == 0 || d.up == 0 || d.right.abs() == d.up.abs();
     let mut near: Vec<Direction> = directions(320).filter(|d| lowest(d.right, d.up) && !straight(d)).collect();
     near.sort_by(|d, e| d.beside().total_cmp(&e.beside()));

@@ -7,7 +7,7 @@ use native.Mathlib.Omega.{arith}
 use lib.Dec.{lit≤, lit<}
 use lib.Ieee.{Float, binary32, ofBits, round, mul}
 use lib.Ieee.Exact.{HasValue}
-use Rattle.number.specs.Degrees.{degree, radiansOf}
+use Rattle.floats.specs.Degrees.{degree, radiansOf}
 use Rattle.angle.specs.Meaning.{D}
 use Rattle.angle.proofs.arctangent.Ops.{Val, D-pos, Near, rounds, mul-signed}
 

@@ -9,8 +9,8 @@ use native.Mathlib.Decide.{decLt}
 use lib.Dec.{T, lit≤, lit<}
 use lib.IntN.{ℤ, pos}
 use lib.Ieee.{Float, nan, inf, fin, up, down, ofBits, round, mul, lt}
-use Rattle.number.specs.Degrees.{radiansOf}
-use Rattle.number.specs.Size.{absOf, signOf, plusZero}
+use Rattle.floats.specs.Degrees.{radiansOf}
+use Rattle.floats.specs.Size.{absOf, signOf, plusZero}
 use Rattle.angle.specs.Meaning.{D, H, whole, coef, signed, parts, sine, cosine, Along}
 use Rattle.angle.specs.Arctangent.{halvesOf, isHalves, arctangentOf, Domain, Arctangent}
 use Rattle.angle.proofs.Terms.{sinAt, cosAt, sum}

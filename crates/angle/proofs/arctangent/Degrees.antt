@@ -12,7 +12,7 @@ use lib.Ieee.Exact.{HasValue}
 use lib.Ieee.Fits.{down-pos, eq→eqb}
 use lib.Ieee.Order.{round-mono}
 use lib.Ieee.Positive.{positive-of-value, values-of-le}
-use Rattle.number.specs.Size.{plusZero, absOf}
+use Rattle.floats.specs.Size.{plusZero, absOf}
 use Rattle.angle.specs.Meaning.{D}
 use Rattle.angle.proofs.arctangent.Ops.{Val, D-pos, Near, rounds, mul-signed}
 use Rattle.angle.proofs.arctangent.Horner.{h}

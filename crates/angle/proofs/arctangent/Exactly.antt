@@ -7,13 +7,13 @@ use native.Mathlib.Omega.{arith}
 use lib.Dec.{T, eqb, ltb, lit<, eqb→eq}
 use lib.IntN.{pos}
 use lib.Pow.{pow-pos}
-use Rattle.number.proofs.Range.{no, yes}
-use Rattle.number.proofs.Signs.{sign-other}
+use Rattle.floats.proofs.Range.{no, yes}
+use Rattle.floats.proofs.Signs.{sign-other}
 use lib.Ieee.{odd, units, Float, nan, inf, fin, binary32, ofBits, round, up, down, unlike, add, sub, mul, div, neg, eq, lt}
 use lib.Ieee.Fits.{down-pos, round-is}
 use lib.Ieee.Order.{drop, kept}
 use lib.Ieee.Scale.{round-same}
-use Rattle.number.specs.Size.{plusZero, absOf, signOf}
+use Rattle.floats.specs.Size.{plusZero, absOf, signOf}
 use Rattle.angle.specs.Arctangent.{isHalves, halvesOf, Domain}
 use Rattle.angle.specs.Arctangent.{evenOf, oddOf, lessOf, fromOf, pastOne, ofRatio, directionOf, arctangentOf}
 use Rattle.angle.proofs.arctangent.Halves.{exact, size-zero}

@@ -8,9 +8,9 @@ use lib.IntN.{ℤ}
 use lib.Dec.{T, leb, eqb, eqb→eq, leb→le, lit≤}
 use lib.Ieee.{Float, nan, inf, fin, up, down, lt, eq}
 use lib.Ieee.Fits.{and-l, and-r, down-pos}
-use Rattle.number.specs.Size.{signOf, plusZero}
-use Rattle.number.proofs.Range.{no, yes}
-use Rattle.number.proofs.Signs.{sign-other, zero-size}
+use Rattle.floats.specs.Size.{signOf, plusZero}
+use Rattle.floats.proofs.Range.{no, yes}
+use Rattle.floats.proofs.Signs.{sign-other, zero-size}
 use Rattle.angle.specs.Meaning.{D, signed, parts}
 use Rattle.angle.specs.Arctangent.{halvesOf, isHalves}
 use Rattle.angle.proofs.arctangent.Placed.{part, flat}

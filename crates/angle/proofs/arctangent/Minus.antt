@@ -8,7 +8,7 @@ use lib.Dec.{T, eqb, ltb, lt→ltb}
 use lib.Ieee.{Float, nan, inf, fin, binary32, ofBits, up, down, unlike, round, sum, add, sub, mul, neg}
 use lib.Ieee.Fits.{down-pos}
 use lib.Ieee.Scale.{round-same}
-use Rattle.number.proofs.Negated.{neg-round}
+use Rattle.floats.proofs.Negated.{neg-round}
 use Rattle.angle.specs.Meaning.{D}
 use Rattle.angle.specs.Arctangent.{lessOf, evenOf, oddOf, fromOf}
 use Rattle.angle.proofs.arctangent.Ops.{Val, D-pos, sub-is}

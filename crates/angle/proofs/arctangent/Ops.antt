@@ -15,9 +15,9 @@ use lib.Ieee.Digits.{size-le, size-reaches}
 use lib.Ieee.Nearest.{closest}
 use lib.Ieee.Order.{drop, kept}
 use lib.Ieee.Scale.{grid, overflow, round-same, round-val}
-use Rattle.number.proofs.Range.{yes}
+use Rattle.floats.proofs.Range.{yes}
 use Rattle.angle.specs.Meaning.{D}
-use Rattle.angle.proofs.Rounded.{Within, closest-within, wider}
+use Rattle.floats.proofs.Closest.{Within, closest-within, wider}
 
 pub D-pos : 0 < D
 unfolding D
@@ -351,23 +351,28 @@ sub-under x y X Y vx vy h = go x y vx vy
             mul-comm (b * p - a * q) D ∙ mul-sub D (b * p) (a * q) ∙ ap (λ (z : ℕ). z - D * (a * q)) (t .1) ∙ ap (λ (z : ℕ). p * q * Y - z) (t .0) ∙ sym (mul-sub (p * q) Y X) ∙ mul-comm (p * q)
             (Y - X)
 
-pub div-is : (x y : Float) (X Y : ℕ) → Val x X → Val y Y → 0 < Y → div binary32 x y ≡ round binary32 false X Y
+-- ---- a quotient with a sign
+pub div-signed : (s : Bool) (x y : Float) (X Y : ℕ) → HasValue x s X D → Val y Y → 0 < Y → div binary32 x y ≡ round binary32 s X Y
 unfolding div
-div-is nan y X Y v w h = absurd v
-div-is (inf s) y X Y v w h = absurd v
-div-is (fin s m e) nan X Y v w h = absurd w
-div-is (fin s m e) (inf t) X Y v w h = absurd w
-div-is (fin true m e) (fin t n d) X Y v w h = absurd (subst (λ (b : Bool). T b) (v .0) tt)
-div-is (fin false m e) (fin true n d) X Y v w h = absurd (subst (λ (b : Bool). T b) (w .0) tt)
-div-is (fin false m e) (fin false n d) X Y v w h =
-    ap (λ (c : Bool). cond c (cond (eqb m 0) nan (inf false)) (round binary32 false (m * up e * down d) (n * up d * down e))) (not-zero n (up d) n0)
-    ∙ round-same binary32 false (m * up e * down d) (n * up d * down e) X Y (mul-pos n0 (down-pos e)) h (cross (m * up e) (down e) (n * up d) (down d) D (v .1) (w .1) D-pos)
+div-signed s nan y X Y v w k = absurd v
+div-signed s (inf t) y X Y v w k = absurd v
+div-signed s (fin r m e) nan X Y v w k = absurd w
+div-signed s (fin r m e) (inf t) X Y v w k = absurd w
+div-signed s (fin r m e) (fin true n d) X Y v w k = absurd (subst (λ (b : Bool). T b) (w .0) tt)
+div-signed s (fin r m e) (fin false n d) X Y v w k =
+    ap (λ (c : Bool). cond c (cond (eqb m 0) nan (inf (unlike r false))) (round binary32 (unlike r false) (m * up e * down d) (n * up d * down e))) (not-zero n (up d) n0)
+    ∙ ap (λ (b : Bool). round binary32 b (m * up e * down d) (n * up d * down e)) (plain r ∙ v .0)
+    ∙ round-same binary32 s (m * up e * down d) (n * up d * down e) X Y (mul-pos n0 (down-pos e)) k (cross (m * up e) (down e) (n * up d) (down d) D (v .1) (w .1) D-pos)
   where
+    plain : (b : Bool) → unlike b false ≡ b
+    plain true = refl
+    plain false = refl
+
     n0 : 0 < n * up d
     n0 = some (n * up d) (down d) D (w .1) (down-pos d)
       where
         some : (b q D : ℕ) → b * D ≡ Y * q → 0 < q → 0 < b
-        some b q D f p = first b D (subst (λ (z : ℕ). 0 < z) (sym f) (mul-pos h p))
+        some b q D f p = first b D (subst (λ (z : ℕ). 0 < z) (sym f) (mul-pos k p))
           where
             first : (b D : ℕ) → 0 < b * D → 0 < b
             first zero D k = absurd (none D k)

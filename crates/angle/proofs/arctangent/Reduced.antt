@@ -9,10 +9,10 @@ use lib.Ieee.{Float, nan, inf, fin, binary32, up, down, unlike, round, div, neg}
 use lib.Ieee.Fits.{down-pos}
 use lib.Ieee.Exact.{HasValue}
 use lib.Ieee.Scale.{round-same}
-use Rattle.number.proofs.Range.{yes}
-use Rattle.number.proofs.Negated.{neg-round}
+use Rattle.floats.proofs.Range.{yes}
+use Rattle.floats.proofs.Negated.{neg-round}
 use Rattle.angle.specs.Meaning.{D}
-use Rattle.angle.proofs.arctangent.Ops.{Val, D-pos, Near, rounds}
+use Rattle.angle.proofs.arctangent.Ops.{div-signed, Val, D-pos, Near, rounds}
 use Rattle.angle.proofs.arctangent.Horner.{h}
 use Rattle.angle.proofs.arctangent.Known.{n-half, n-h}
 
@@ -26,49 +26,6 @@ pub record Reduced (x : Float) (s : Bool) (up right : ℕ) : Type 0 where
   pub far : D ≤ 262144 * parts
   pub hi : parts * right * 2 ≤ up * D * 2 + right * (20 * h)
   pub lo : up * D * 2 ≤ parts * right * 2 + right * (20 * h)
-
--- ---- a quotient with a sign
-div-signed : (s : Bool) (x y : Float) (X Y : ℕ) → HasValue x s X D → Val y Y → 0 < Y → div binary32 x y ≡ round binary32 s X Y
-unfolding div
-div-signed s nan y X Y v w k = absurd v
-div-signed s (inf t) y X Y v w k = absurd v
-div-signed s (fin r m e) nan X Y v w k = absurd w
-div-signed s (fin r m e) (inf t) X Y v w k = absurd w
-div-signed s (fin r m e) (fin true n d) X Y v w k = absurd (subst (λ (b : Bool). T b) (w .0) tt)
-div-signed s (fin r m e) (fin false n d) X Y v w k =
-    ap (λ (c : Bool). cond c (cond (eqb m 0) nan (inf (unlike r false))) (round binary32 (unlike r false) (m * up e * down d) (n * up d * down e))) (not-zero n (up d) n0)
-    ∙ ap (λ (b : Bool). round binary32 b (m * up e * down d) (n * up d * down e)) (plain r ∙ v .0)
-    ∙ round-same binary32 s (m * up e * down d) (n * up d * down e) X Y (mul-pos n0 (down-pos e)) k (cross (m * up e) (down e) (n * up d) (down d) D (v .1) (w .1) D-pos)
-  where
-    plain : (b : Bool) → unlike b false ≡ b
-    plain true = refl
-    plain false = refl
-
-    n0 : 0 < n * up d
-    n0 = some (n * up d) (down d) D (w .1) (down-pos d)
-      where
-        some : (b q D : ℕ) → b * D ≡ Y * q → 0 < q → 0 < b
-        some b q D f p = first b D (subst (λ (z : ℕ). 0 < z) (sym f) (mul-pos k p))
-          where
-            first : (b D : ℕ) → 0 < b * D → 0 < b
-            first zero D k = absurd (none D k)
-              where
-                none : (D : ℕ) → 0 < 0 * D → ⊥
-                none D k = omega arith
-            first (suc b) D k = omega arith
-
-    not-zero : (n u : ℕ) → 0 < n * u → eqb n 0 ≡ false
-    not-zero n u k = go (eqb n 0) refl
-      where
-        none : (n u : ℕ) → 0 < n * u → n ≡ 0 → ⊥
-        none n u h e = omega (arith, h, ap (λ (z : ℕ). z * u) e)
-
-        go : (b : Bool) → eqb n 0 ≡ b → eqb n 0 ≡ false
-        go true e = absurd (none n u k (eqb→eq n 0 (yes e)))
-        go false e = e
-
-    cross : (a p b q D : ℕ) → a * D ≡ X * p → b * D ≡ Y * q → 0 < D → a * q * Y ≡ X * (b * p)
-    cross a p b q D f g z = eq-of-mul-eq-mul-right D z (a * q * Y) (X * (b * p)) (omega (arith, ap (λ (k : ℕ). k * (q * Y)) f, ap (λ (k : ℕ). X * p * k) g))
 
 -- ---- from N / G to X / Y, over any numbers: v N is X within 7 h v, and v G is Y within 24 h v
 module _ (D t v N G P X Y : ℕ) (D0 : 0 < D) (small : 10000000 * t ≤ D) (low : 3 * D ≤ 2 * G) (top : 9 * P ≤ 2 * D + 9 * t) where

@@ -8,8 +8,8 @@ use lib.Dec.{T, lit≤}
 use lib.IntN.{ℤ}
 use lib.Ieee.{Float, binary32, ofBits, round, add, sub, mul, neg, lt, div}
 use lib.Ieee.Exact.{HasValue}
-use Rattle.number.specs.Degrees.{radiansOf}
-use Rattle.number.specs.Size.{plusZero, signOf, absOf}
+use Rattle.floats.specs.Degrees.{radiansOf}
+use Rattle.floats.specs.Size.{plusZero, signOf, absOf}
 use Rattle.angle.specs.Meaning.{D, H, signed, parts, sine, cosine, Along}
 use Rattle.angle.specs.Arctangent.{isHalves, halvesOf, ofRatio, halfTurn, tooMuch, arctangentOf}
 use Rattle.angle.proofs.Rounded.{is}

@@ -9,7 +9,7 @@ use lib.IntN.{negsuc}
 use lib.Ieee.{Float, fin, binary32, ofBits, round, div}
 use Rattle.angle.specs.Meaning.{D}
 use Rattle.angle.proofs.arctangent.Horner.{h}
-use Rattle.angle.proofs.arctangent.Ops.{Val, D-pos, Near, rounds, div-is}
+use Rattle.angle.proofs.arctangent.Ops.{Val, D-pos, Near, rounds, div-signed}
 use Rattle.angle.specs.Meaning.{H, whole}
 use Rattle.angle.specs.Arctangent.{fromOf, ofRatio}
 use lib.Ieee.{neg, lt}
@@ -273,7 +273,7 @@ module _ (u v : ℕ) (v0 : 0 < v) (u0 : u ≤ 32766) (uv : 39 * v ≤ 16 * u) wh
       go d q k e p l = omega (arith, ap (λ (z : ℕ). z * q) e, mul-le-mul-left d l, mul-pos p p)
 
   pub p-is : div binary32 (ofBits binary32 0x3F800000) (round binary32 false u v) ≡ round binary32 false D Q
-  p-is = div-is (ofBits binary32 0x3F800000) (round binary32 false u v) D Q v-1 q-val Q-pos
+  p-is = div-signed false (ofBits binary32 0x3F800000) (round binary32 false u v) D Q v-1 q-val Q-pos
 
   pub P : ℕ
   P = pn .parts

@@ -17,9 +17,9 @@ use lib.Ieee.Nearest.{closest, nearest-ge}
 use lib.Ieee.Order.{drop, kept, round-mono}
 use lib.Ieee.Scale.{grid, overflow}
 use borrow.Author.Tests.{le-ltb, lt-ltb}
-use Rattle.number.proofs.Range.{le-yes}
-use Rattle.number.proofs.Powers.{times-pow}
-use Rattle.angle.proofs.Rounded.{Within, closest-within, wider}
+use Rattle.floats.proofs.Range.{le-yes}
+use Rattle.floats.proofs.Powers.{times-pow}
+use Rattle.floats.proofs.Closest.{Within, closest-within, wider}
 
 -- a and b are e apart at most
 pub record Near (a b e : ℕ) : Type 0 where

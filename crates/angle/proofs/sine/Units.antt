@@ -9,8 +9,8 @@ use lib.Dec.{T, nltb→le, lit<, ltb, eqb}
 use lib.IntN.{ℤ, natAbs}
 use lib.Ieee.{fin, binary32, up, down, fits, le, lt, eq}
 use lib.Ieee.Fits.{down-pos}
-use Rattle.number.proofs.Powers.{on-grid, shallow}
-use Rattle.number.proofs.Range.{le-no, le-no'}
+use Rattle.floats.proofs.Powers.{on-grid, shallow}
+use Rattle.floats.proofs.Range.{le-no, le-no'}
 use Rattle.angle.specs.Meaning.{D, parts}
 use Rattle.angle.specs.Sine.{least, most}
 use Rattle.angle.proofs.Signs.{size}

@@ -11,7 +11,7 @@ use lib.Ieee.{Float, nan, inf, fin, binary32, binary64, up, down, neg, lt, fits,
 use lib.Ieee.Fits.{down-pos}
 use lib.Ieee.Scale.{finite}
 use borrow.Author.Tests.{lt-ltb, ltb-true, ltb-false}
-use Rattle.number.proofs.Powers.{shallow}
+use Rattle.floats.proofs.Powers.{shallow}
 use Rattle.angle.specs.Meaning.{D, H, whole, signed, parts, mod4, placed, sine, cosine, UpTo26, Close}
 use Rattle.angle.specs.Sine.{many, sizeOf, countedOf, restOf, sizedOf, tinyOf, sineFrom, cosineFrom, narrowOf, sineAt, cosineAt, sineOfSize, cosineOfSize, sineOf, cosineOf}
 use Rattle.angle.proofs.Signs as Signs

@@ -2,7 +2,7 @@
 use mathlib.Core.Path.{_≡_, refl, sym, ap, ap₂, _∙_}
 use mathlib.Core.Bool.{Bool, true, false, cond, _&&_}
 use mathlib.Core.List.{List, [], _∷_}
-use Prim.Native.Nat.{ℕ, suc, _+_, _-_, _≤_, _<_}
+use Prim.Native.Nat.{ℕ, suc, _+_, _-_, _%_, _^_, _≤_, _<_}
 use native.Mathlib.Omega.{arith}
 use native.Mathlib.Decide.{decLt}
 use borrow.Author.Tests.{ltb-true, le-ltb, lt-leb, le-leb}
@@ -80,7 +80,7 @@ window-of v c xs ys fx fy h k = record {
 
 -- ---- what the two tests of `dab` say
 
-pub not-from : (s : Span) (p : ℕ) → p < 2147483648 + s .from → false ≡ covers s (lowered p)
+not-from : (s : Span) (p : ℕ) → p < 2147483648 + s .from → false ≡ covers s (lowered p)
 unfolding covers
 not-from s p h = go (decLt p 2147483648)
   where
@@ -88,11 +88,22 @@ not-from s p h = go (decLt p 2147483648)
     go (yes l) = rw (lowered-neg p l) refl
     go (no l) = rw (lowered-pos p (omega arith), lt-leb (s .from) (p - 2147483648) (omega arith)) refl
 
-pub until : (s : Span) (p : ℕ) → 2147483648 + s .from ≤ p → ltb p (2147483648 + s .to) ≡ covers s (lowered p)
+until : (s : Span) (p : ℕ) → 2147483648 + s .from ≤ p → ltb p (2147483648 + s .to) ≡ covers s (lowered p)
 unfolding covers
 until s p h =
     rw (lowered-pos p (omega arith), le-leb (s .from) (p - 2147483648) (omega arith))
     (same-leb (suc p) (2147483648 + s .to) (suc (p - 2147483648)) (s .to) (omega arith) (omega arith))
+
+-- r is how far p lies past the span's first, modulo 2^64
+pub past : (s : Span) (p r : ℕ) → s .from ≤ s .to → s .to ≤ 32767 → p < 2 ^ 64 → r < 2 ^ 64 → (r + (2147483648 + s .from)) % 2 ^ 64 ≡ p → ltb r (s .to - s .from) ≡ covers s (lowered p)
+past s p r a b l m e = go (decLt p (2147483648 + s .from))
+  where
+    go : Dec (p < 2147483648 + s .from) → ltb r (s .to - s .from) ≡ covers s (lowered p)
+    go (yes h) = le-ltb r (s .to - s .from) (omega arith) ∙ not-from s p h
+    go (no h) =
+        let i : 2147483648 + s .from ≤ p = omega arith in
+        let j : r + (2147483648 + s .from) ≡ p = omega arith in
+        same-leb (suc r) (s .to - s .from) (suc p) (2147483648 + s .to) (omega arith) (omega arith) ∙ until s p i
 
 pub record Covered (s : Span) (p : ℕ) : Type 0 where
   pub low : 2147483648 ≤ p

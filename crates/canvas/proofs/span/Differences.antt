@@ -9,7 +9,7 @@ use lib.IntN.{ℤ, pos, negsuc, natAbs, negℤ, subℕ, _+ℤ_, _-ℤ_}
 use lib.Signed.{leZ, ltZ}
 use mir.Syntax.{w32}
 use mir.Val.{SFits}
-use Rattle.number.specs.Whole.{atLeast0}
+use Rattle.floats.specs.Whole.{atLeast0}
 use Rattle.canvas.specs.Clip.{larger, smaller, shared}
 use Rattle.canvas.specs.Walk.{lifted}
 use Rattle.canvas.proofs.span.Spans.{same-leb}

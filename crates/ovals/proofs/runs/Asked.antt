@@ -11,7 +11,7 @@ use Rattle.words.proofs.Either.{both}
 use Rattle.curves.specs.declared.bulges.Side.{Side}
 use Rattle.curves.specs.declared.pies.Pie.{Pie}
 use Rattle.curves.specs.Bulges.{pieSide}
-use Rattle.curves.specs.Ovals.{offset, ovalOf}
+use Rattle.curves.specs.Oval.{offset, ovalOf}
 use Rattle.curves.specs.Pies.{pieOf, allRound, Asked, Swept, Inside}
 use Rattle.curves.proofs.Domain.{in-domain}
 use Rattle.canvas.specs.Clip.{within}

@@ -9,10 +9,10 @@ use lib.Ieee.{Float, binary32, ofInt}
 use mir.Syntax.{w32}
 use mir.Val.{SFits, toZ, ofZ}
 use mir.ValLaws.{toZ-ofZ}
-use Rattle.number.specs.Degrees.{radiansOf}
-use Rattle.curves.specs.declared.ovals.Oval.{Oval}
+use Rattle.floats.specs.Degrees.{radiansOf}
+use Rattle.curves.specs.declared.oval.Oval.{Oval}
 use Rattle.curves.specs.declared.corners.Corners.{Corners}
-use Rattle.curves.specs.Ovals.{ovalOf}
+use Rattle.curves.specs.Oval.{ovalOf}
 use Rattle.curves.specs.Corners.{radiusOf, insetOf, cornersOf}
 use Rattle.pixels.specs.declared.Canvas.{Canvas}
 use Rattle.canvas.specs.Plot.{Point}

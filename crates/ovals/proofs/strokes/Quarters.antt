@@ -8,8 +8,8 @@ use native.Mathlib.Nat.{min-le-right}
 use lib.IntN.{ℤ, pos}
 use lib.Ieee.{Float, fin, binary32, ofInt}
 use lib.ListN.{length, length-append}
-use Rattle.curves.specs.declared.ovals.Oval.{Oval}
-use Rattle.number.specs.Degrees.{radiansOf}
+use Rattle.curves.specs.declared.oval.Oval.{Oval}
+use Rattle.floats.specs.Degrees.{radiansOf}
 use Rattle.angle.specs.Stroke.{radians}
 use Rattle.curves.specs.declared.corners.Corners.{Corners}
 use Rattle.curves.specs.Strokes.{stepsOf}

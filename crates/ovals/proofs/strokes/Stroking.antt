@@ -3,18 +3,11 @@ use mathlib.Core.Path.{_≡_, refl, sym, ap, ap₂, _∙_}
 use mathlib.Core.List.{List, [], _∷_, map}
 use Prim.Native.Nat.{ℕ, zero, suc, _+_, _*_, _-_, _≤_, _<_, max}
 use native.Mathlib.Omega.{arith}
-use native.Mathlib.Nat.{add-zero}
-use lib.IntN.{ℤ}
-use lib.Ieee.{Float, nan}
-use lib.ListN.{length, getD}
-use mir.Syntax.{w32}
-use mir.Val.{SFits, toZ, ofZ}
-use Rattle.angle.specs.Sine.{sineOf, cosineOf, sineCosineOf}
-use Rattle.angle.specs.Stroke.{strokeAngle}
-use Rattle.curves.specs.declared.ovals.Oval.{Oval}
-use Rattle.curves.specs.declared.strokes.Spot.{Spot}
-use Rattle.curves.specs.Strokes.{stepsOf, spotOf, strokePoint, anglesFrom}
-use Rattle.curves.proofs.strokes.Sixteen.{angles-length, angles-at, map-at}
+use lib.Ieee.{Float}
+use lib.ListN.{length, getD, length-map}
+use Rattle.floats.proofs.Rounds.{round-fits}
+use Rattle.curves.specs.declared.oval.Oval.{Oval}
+use Rattle.curves.specs.Strokes.{Spot, stepsOf, xAt, yAt, spotOf, strokePoint, spotsFrom, columns, rows}
 use Rattle.pixels.specs.declared.Canvas.{Canvas}
 use Rattle.canvas.specs.declared.Clip.{Clip}
 use Rattle.pixels.specs.declared.rows.Span.{Span}
@@ -22,14 +15,8 @@ use Rattle.canvas.specs.Plot.{Point, at, inks}
 use Rattle.ovals.specs.Strokes.{pointOf, strokeFrom, stroke}
 use Rattle.ovals.specs.Sift.{spotsAt}
 use Rattle.canvas.specs.Walk.{lifted, lowered, Work, Did, dabbed, dabs, Window}
-use Rattle.canvas.proofs.span.Lifts.{lowers}
+use Rattle.canvas.proofs.span.Lifts.{lower-lift}
 use Rattle.canvas.proofs.plot.Dabs.{Dabbing, dabbing-start, dabbing-step, dabbing-end, dabs-did, dabbed-grows}
-
--- a point as it is lifted
-pub spot-dabbed : (v : Canvas) (xs ys : Span) (f : ℕ → ℕ) (s : Spot) (p q : ℕ) (w w′ : Work) → SFits w32 (s .x) → SFits w32 (s .y) → p ≡ lifted (toZ w32 (ofZ w32 (s .x)))
-    → q ≡ lifted (toZ w32 (ofZ w32 (s .y)))
-    → w′ ≡ dabbed v xs ys f (at (lowered p) (lowered q)) w → w′ ≡ dabbed v xs ys f (pointOf s) w
-spot-dabbed v xs ys f s p q w w′ fx fy ep eq d = d ∙ ap₂ (λ (x y : ℤ). dabbed v xs ys f (at x y) w) (lowers (s .x) p fx ep) (lowers (s .y) q fy eq)
 
 -- ---- some of the points
 pub dabs-grows : (v : Canvas) (xs ys : Span) (f : ℕ → ℕ) (ps : List Point) (w : Work) → dabs v xs ys f ps w .tally .landed ≤ w .tally .landed + length ps
@@ -37,15 +24,15 @@ unfolding dabs
 dabs-grows v xs ys f [] w = omega arith
 dabs-grows v xs ys f (p ∷ ps) w = omega (arith, dabs-grows v xs ys f ps (dabbed v xs ys f p w), dabbed-grows v xs ys f p w)
 
-module _ (o : Oval) (ss cs : List Float) where
-  spots-length : (k n : ℕ) → length (spotsAt o ss cs k n) ≡ n
+module _ (ps qs : List ℕ) where
+  spots-length : (k n : ℕ) → length (spotsAt ps qs k n) ≡ n
   unfolding spotsAt
   spots-length k zero = refl
   spots-length k (suc n) = ap suc (spots-length (suc k) n)
 
   pub record Spotting (v : Canvas) (xs ys : Span) (f : ℕ → ℕ) (m j : ℕ) (w w₀ : Work) : Type 0 where
     pub held : j ≤ m
-    pub rest : Dabbing v xs ys f (spotsAt o ss cs j (m - j)) w (spotsAt o ss cs 0 m) w₀
+    pub rest : Dabbing v xs ys f (spotsAt ps qs j (m - j)) w (spotsAt ps qs 0 m) w₀
 
   module _ {v : Canvas} {xs ys : Span} {f : ℕ → ℕ} {m : ℕ} where
     pub spotting-start : {w : Work} → Spotting v xs ys f m 0 w w
@@ -54,23 +41,20 @@ module _ (o : Oval) (ss cs : List Float) where
     pub spotting-room : {j : ℕ} {w w₀ : Work} → w₀ .tally .landed + m < 18446744073709551616 → j < m → Spotting v xs ys f m j w w₀ → w .tally .landed + 1 < 18446744073709551616
     spotting-room {j} l h k = omega (arith, k .rest .few, spots-length j (m - j), spots-length 0 m)
 
-    pub spotting-turn : {j : ℕ} {w w′ w₀ : Work} {s : Spot} → j < m → s ≡ spotOf o (record { sine = getD ss j nan; cosine = getD cs j nan }) → w′ ≡ dabbed v xs ys f (pointOf s) w
-        → Spotting v xs ys f m j w w₀
-        → Spotting v xs ys f m (j + 1) w′ w₀
+    pub spotting-turn : {j : ℕ} {w w′ w₀ : Work} → j < m → w′ ≡ dabbed v xs ys f (at (lowered (getD ps j 0)) (lowered (getD qs j 0))) w → Spotting v xs ys f m j w w₀ → Spotting v xs ys f m (j + 1) w′ w₀
     unfolding spotsAt
-    spotting-turn {j} {w} {w′} {w₀} {s} h e d k =
+    spotting-turn {j} {w} {w′} {w₀} h d k =
         let n : m - j ≡ suc (m - suc j) = omega arith in
-        let p : Dabbing v xs ys f (spotsAt o ss cs j (suc (m - suc j))) w (spotsAt o ss cs 0 m) w₀ = rw n at (k .rest) in
-        let g : w′ ≡ dabbed v xs ys f (pointOf (spotOf o (record { sine = getD ss j nan; cosine = getD cs j nan }))) w = rw e at d in
-        let q : Dabbing v xs ys f (spotsAt o ss cs (suc j) (m - suc j)) w′ (spotsAt o ss cs 0 m) w₀ = dabbing-step p g in
+        let p : Dabbing v xs ys f (spotsAt ps qs j (suc (m - suc j))) w (spotsAt ps qs 0 m) w₀ = rw n at (k .rest) in
+        let q : Dabbing v xs ys f (spotsAt ps qs (suc j) (m - suc j)) w′ (spotsAt ps qs 0 m) w₀ = dabbing-step p d in
         let u : j + 1 ≡ suc j = omega arith in
         rw u (record { held = omega arith; rest = q })
 
-    pub spotting-end : {j : ℕ} {w w₀ : Work} → m ≤ j → Spotting v xs ys f m j w w₀ → w ≡ dabs v xs ys f (spotsAt o ss cs 0 m) w₀
+    pub spotting-end : {j : ℕ} {w w₀ : Work} → m ≤ j → Spotting v xs ys f m j w w₀ → w ≡ dabs v xs ys f (spotsAt ps qs 0 m) w₀
     unfolding spotsAt
     spotting-end {j} {w} {w₀} h k =
         let n : m - j ≡ 0 = omega arith in
-        let p : Dabbing v xs ys f (spotsAt o ss cs j 0) w (spotsAt o ss cs 0 m) w₀ = rw n at (k .rest) in
+        let p : Dabbing v xs ys f (spotsAt ps qs j 0) w (spotsAt ps qs 0 m) w₀ = rw n at (k .rest) in
         dabbing-end p
 
 -- ---- all of them, some at a time
@@ -80,28 +64,33 @@ module _ (o : Oval) (start sweep : Float) (steps : ℕ) where
   from-length i zero = refl
   from-length i (suc n) = ap suc (from-length (suc i) n)
 
-  -- sixteen sines and cosines are those of the points from i on
-  module _ (i : ℕ) (ss cs : List Float) (es : ss ≡ map sineOf (anglesFrom start sweep steps i 16)) (ec : cs ≡ map cosineOf (anglesFrom start sweep steps i 16)) where
-    one : (g : Float → Float) (ws : List Float) → ws ≡ map g (anglesFrom start sweep steps i 16) → (k : ℕ) → k < 16 → getD ws k nan ≡ g (strokeAngle start sweep (i + k) steps)
-    one g ws e k l =
-        ap (λ (us : List Float). getD us k nan) e
-        ∙ map-at g (anglesFrom start sweep steps i 16) k (omega (arith, angles-length start sweep steps i 16))
-        ∙ ap g (angles-at start sweep steps i 16 k l)
+  -- sixteen columns and rows are those of the points from i on
+  point : (i : ℕ) → at (lowered (lifted (strokePoint o start sweep i steps .x))) (lowered (lifted (strokePoint o start sweep i steps .y))) ≡ pointOf (strokePoint o start sweep i steps)
+  unfolding strokePoint spotOf xAt yAt
+  point i = ap₂ at (lower-lift _ (round-fits _)) (lower-lift _ (round-fits _))
 
-    point : (k : ℕ) → k < 16 → spotOf o (record { sine = getD ss k nan; cosine = getD cs k nan }) ≡ strokePoint o start sweep (i + k) steps
-    unfolding strokePoint sineCosineOf
-    point k l = ap₂ (λ (x y : Float). spotOf o (record { sine = x; cosine = y })) (one sineOf ss es k l) (one cosineOf cs ec k l)
+  spots-is : (ps qs : List ℕ) (p q k n : ℕ) → spotsAt (p ∷ ps) (q ∷ qs) (suc k) n ≡ spotsAt ps qs k n
+  unfolding spotsAt
+  spots-is ps qs p q k zero = refl
+  spots-is ps qs p q k (suc n) = ap (λ (ts : List Point). at (lowered (getD ps k 0)) (lowered (getD qs k 0)) ∷ ts) (spots-is ps qs p q (suc k) n)
 
-    points : (k n : ℕ) → k + n ≤ 16 → spotsAt o ss cs k n ≡ strokeFrom o start sweep steps (i + k) n
-    unfolding spotsAt strokeFrom
-    points k zero l = refl
-    points k (suc n) l =
-        let u : i + suc k ≡ suc (i + k) = omega arith in
-        let e : spotsAt o ss cs (suc k) n ≡ strokeFrom o start sweep steps (suc (i + k)) n = points (suc k) n (omega arith) ∙ ap (λ (m : ℕ). strokeFrom o start sweep steps m n) u in
-        ap₂ (λ (s : Spot) (ps : List Point). pointOf s ∷ ps) (point k (omega arith)) e
+  points : (i r n : ℕ) → n ≤ r → spotsAt (columns (spotsFrom o start sweep steps i r)) (rows (spotsFrom o start sweep steps i r)) 0 n ≡ strokeFrom o start sweep steps i n
+  unfolding spotsAt strokeFrom spotsFrom
+  points i r zero l = refl
+  points i zero (suc n) l = absurd (omega arith)
+  points i (suc r) (suc n) l = ap₂ (λ (p : Point) (ps : List Point). p ∷ ps) (point i) (spots-is _ _ _ _ 0 n ∙ points (suc i) r n (omega arith))
 
-    pub sixteen : (m : ℕ) → m ≤ 16 → spotsAt o ss cs 0 m ≡ strokeFrom o start sweep steps i m
-    sixteen m l = points 0 m (omega arith) ∙ ap (λ (k : ℕ). strokeFrom o start sweep steps k m) (add-zero i)
+  pub sixteen : (i : ℕ) {ps qs : List ℕ} → ps ≡ columns (spotsFrom o start sweep steps i 16) → qs ≡ rows (spotsFrom o start sweep steps i 16) → (m : ℕ) → m ≤ 16
+      → spotsAt ps qs 0 m ≡ strokeFrom o start sweep steps i m
+  sixteen i e f m l = ap₂ (λ (ps qs : List ℕ). spotsAt ps qs 0 m) e f ∙ points i 16 m l
+
+  spots-long : (i n : ℕ) → length (spotsFrom o start sweep steps i n) ≡ n
+  unfolding spotsFrom
+  spots-long i zero = refl
+  spots-long i (suc n) = ap suc (spots-long (suc i) n)
+
+  pub all : (i : ℕ) (g : Spot → ℕ) {ps : List ℕ} → ps ≡ map g (spotsFrom o start sweep steps i 16) → length ps ≡ 16
+  all i g e = ap length e ∙ length-map (spotsFrom o start sweep steps i 16) g ∙ spots-long i 16
 
   -- m of them, and then r
   parts : (v : Canvas) (xs ys : Span) (f : ℕ → ℕ) (m i r : ℕ) (w : Work)

@@ -1,26 +1,35 @@
--- `serve` answers line by line; the line is within the text, and what is used within the buffer.
+-- The line that `next` finds is answered behind what is used of out.
+use Rattle.replay.proofs.Behind.{as-long, within}
 use mathlib.Core.Path.{_≡_, refl, _∙_}
-use Prim.Native.Nat.{_≤_}
 use native.Mathlib.Omega.{arith}
-use lib.ListN.{length}
 use borrow.Author.Needs.{needs}
+use lib.ListN.{length}
+use Rattle.replies.proofs.Replies.{replied-within}
 use Rattle.replay.proofs.serve.Statement.{statement}
 use Rattle.replay.proofs.serve.Tie as tie
 
 abbrev Inv-loop : tie.InvT-loop
-Inv-loop text₀ bytes₀ image₀ out₀ s₀ used₀ left₀ text bytes image out s used left = (length text ≡ length text₀) × (length bytes ≡ length bytes₀) × (length image ≡ length image₀) × (length out ≡ length out₀) × (s .at ≤ s .end) × (s .end ≤ s .held) × (s .held ≤ length text₀) × (used ≤ length out₀)
+Inv-loop text₀ bytes₀ image₀ words₀ out₀ s₀ left₀ text bytes image words out s left =
+    (length text ≡ length text₀)
+    × (length bytes ≡ length bytes₀)
+    × (length image ≡ length image₀)
+    × (length words ≡ length words₀)
+    × (length out ≡ length out₀)
 
 abbrev μ-loop : tie.MeasureT-loop
-μ-loop text₀ bytes₀ image₀ out₀ s₀ used₀ left₀ text bytes image out s used left = left
+μ-loop text₀ bytes₀ image₀ words₀ out₀ s₀ left₀ text bytes image words out s left = left
 
 loop-holds : tie.Need-loop-holds Inv-loop μ-loop
-loop-holds c = (refl, refl, refl, refl, omega arith, omega arith, omega arith, omega arith)
+loop-holds c = (refl, refl, refl, refl, refl)
 
 next-requires : tie.Need-next-requires Inv-loop μ-loop
 next-requires c κs = search needs
 
+enum-told : tie.Need-enum-told Inv-loop μ-loop
+enum-told c = search needs
+
 same-length : tie.Need-same-length Inv-loop μ-loop
-same-length c = c .before .before .before .before .next .kept .0 ∙ c .before .before .before .before .before .before .before .loop .inv .0
+same-length c = c .before .before .before .next .kept .1 .1 .0 ∙ c .before .before .before .before .before .before .before .loop .inv .0
 
 same-length-2 : tie.Need-same-length-2 Inv-loop μ-loop
 same-length-2 c = c .before .before .before .before .before .before .before .loop .inv .1
@@ -31,26 +40,46 @@ same-length-3 c = c .before .before .before .before .before .before .before .loo
 same-length-4 : tie.Need-same-length-4 Inv-loop μ-loop
 same-length-4 c = c .before .before .before .before .before .before .before .loop .inv .3
 
+same-length-5 : tie.Need-same-length-5 Inv-loop μ-loop
+same-length-5 c = c .before .before .before .before .before .before .before .loop .inv .4
+
 returns : tie.Need-returns Inv-loop μ-loop
-returns c = c .before .before .before .before .before .before .before .loop .inv .7
+returns c = search needs
 
-shown-requires : tie.Need-shown-requires Inv-loop μ-loop
-shown-requires c κs = search needs
+sub-reply : tie.Need-sub-reply Inv-loop μ-loop
+sub-reply c = c .before .before .before .before .next .ensures .first
 
-sub-answer : tie.Need-sub-answer Inv-loop μ-loop
-sub-answer c = omega arith
+part-reply-start : tie.Need-part-reply-start Inv-loop μ-loop
+part-reply-start c =
+    let next = c .before .before .before .before .before .next in
+    omega (arith, next .ensures .first, next .ensures .last, next .ensures .within)
 
-part-answer-start : tie.Need-part-answer-start Inv-loop μ-loop
-part-answer-start c = omega arith
+part-reply-end : tie.Need-part-reply-end Inv-loop μ-loop
+part-reply-end c =
+    let next = c .before .before .before .before .before .next in
+    omega (arith, next .ensures .first, next .ensures .last, next .ensures .within)
 
-part-answer-end : tie.Need-part-answer-end Inv-loop μ-loop
-part-answer-end c = omega arith
+sub-reply-2 : tie.Need-sub-reply-2 Inv-loop μ-loop
+sub-reply-2 c = omega (arith, c .before .before .before .before .before .before .before .before .before .next .ensures .room)
 
-answer-requires : tie.Need-answer-requires Inv-loop μ-loop
-answer-requires c κs = search needs
+part-reply-start-2 : tie.Need-part-reply-start-2 Inv-loop μ-loop
+part-reply-start-2 c = omega (arith, c .before .before .before .before .before .before .before .before .before .next .ensures .room)
 
-emit-requires : tie.Need-emit-requires Inv-loop μ-loop
-emit-requires c κs = search needs
+part-reply-end-2 : tie.Need-part-reply-end-2 Inv-loop μ-loop
+part-reply-end-2 c = omega (arith, c .before .before .before .before .before .before .before .before .before .next .ensures .room)
+
+reply-requires : tie.Need-reply-requires Inv-loop μ-loop
+reply-requires c κs = search needs
+
+add-t21 : tie.Need-add-t21 Inv-loop μ-loop
+add-t21 c =
+    let next = c .before .before .before .before .before .before .before .before .before .before .before .before .before .before .before .before .before .before .before in
+    let l = next .before .before .before .before .loop in
+    let s = next .next in
+    let g = next .before .before .before .before .before .before .before .before .before .before .good in
+    let r = c .before .before .before .before .before .before .before .before .reply in
+    let w = within (l .out) (r .last .1 .1 .1 .1 .0) (s .result .used) (r .result) (s .ensures .room) (replied-within _ _ _ _ _ (r .ensures)) in
+    record { fits = omega (arith, w, l .inv .4, g .1 .1 .1 .1 .0 .0) }
 
 sub-left : tie.Need-sub-left Inv-loop μ-loop
 sub-left c = omega arith
@@ -60,26 +89,31 @@ loop-less c = omega arith
 
 loop-again : tie.Need-loop-again Inv-loop μ-loop
 loop-again c =
-    let next = c .before .before .before .before .before .before .before .before .before .before .before .before .before .before .before .before .before .before .next in
-    let answer = c .before .before .before .before .before .before .before .before .answer in
-    let emit = c .before .before .emit in
-    let inv = c .before .before .before .before .before .before .before .before .before .before .before .before .before .before .before .before .before .before .before .before .before .loop .inv in
-    (next .kept .0 ∙ inv .0, answer .kept .1 .0 ∙ inv .1, answer .kept .1 .1 .0 ∙ inv .2, emit .kept .1 .0 ∙ inv .3, next .ensures .0, next .ensures .1, omega (arith, next .ensures .2), omega (arith, emit .ensures))
-
-same-length-5 : tie.Need-same-length-5 Inv-loop μ-loop
-same-length-5 c = c .before .loop .inv .0
+    let next = c .before .before .before .before .before .before .before .before .before .before .before .before .before .before .before .before .before .before .before in
+    let l = next .before .before .before .before .loop in
+    let s = next .next in
+    let r = c .before .before .before .before .before .before .before .before .reply in
+    let e = as-long (l .out) (r .last .1 .1 .1 .1 .0) (s .result .used) (r .kept .1 .1 .1 .1 .0) in
+    let i = l .inv in
+    (s .kept .1 .1 .0 ∙ i .0, r .kept .1 .0 ∙ i .1, r .kept .1 .1 .0 ∙ i .2, r .kept .1 .1 .1 .0 ∙ i .3, e ∙ i .4)
 
 same-length-6 : tie.Need-same-length-6 Inv-loop μ-loop
-same-length-6 c = c .before .loop .inv .1
+same-length-6 c = c .before .loop .inv .0
 
 same-length-7 : tie.Need-same-length-7 Inv-loop μ-loop
-same-length-7 c = c .before .loop .inv .2
+same-length-7 c = c .before .loop .inv .1
 
 same-length-8 : tie.Need-same-length-8 Inv-loop μ-loop
-same-length-8 c = c .before .loop .inv .3
+same-length-8 c = c .before .loop .inv .2
+
+same-length-9 : tie.Need-same-length-9 Inv-loop μ-loop
+same-length-9 c = c .before .loop .inv .3
+
+same-length-10 : tie.Need-same-length-10 Inv-loop μ-loop
+same-length-10 c = c .before .loop .inv .4
 
 returns-2 : tie.Need-returns-2 Inv-loop μ-loop
-returns-2 c = c .before .loop .inv .7
+returns-2 c = search needs
 
 pub serve-spec : {M : Type 1} → statement M
 serve-spec =
@@ -89,22 +123,27 @@ serve-spec =
     μ-loop
     loop-holds
     next-requires
+    enum-told
     same-length
     same-length-2
     same-length-3
     same-length-4
+    same-length-5
     returns
-    shown-requires
-    sub-answer
-    part-answer-start
-    part-answer-end
-    answer-requires
-    emit-requires
+    sub-reply
+    part-reply-start
+    part-reply-end
+    sub-reply-2
+    part-reply-start-2
+    part-reply-end-2
+    reply-requires
+    add-t21
     sub-left
     loop-less
     loop-again
-    same-length-5
     same-length-6
     same-length-7
     same-length-8
+    same-length-9
+    same-length-10
     returns-2)

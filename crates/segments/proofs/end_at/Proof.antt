@@ -5,8 +5,8 @@ use mathlib.Core.Path.{_≡_, sym, subst, _∙_}
 use lib.IntN.{ℤ}
 use lib.Ieee.{Float}
 use mir.Val.{SFits, toZ, ofZ}
-use Rattle.number.specs.Whole.{roundAs}
-use Rattle.number.proofs.Rounds.{round-fits}
+use Rattle.floats.specs.Whole.{roundAs}
+use Rattle.floats.proofs.Rounds.{round-fits}
 use Rattle.segments.specs.Cut.{end}
 use borrow.Author.Needs.{needs}
 use Rattle.segments.proofs.end_at.Statement.{statement}

@@ -1,4 +1,4 @@
--- The call of the canvas, its answer read in numbers.
+-- The call of the canvas, its answer read in records.
 use Rattle.canvas.specs.Call.{fillRect}
 use Rattle.tuyrashka.proofs.Answers.{exports}
 use borrow.Author.Needs.{needs}
@@ -11,26 +11,29 @@ canvas-of-requires c κs = search needs
 clip-of-requires : tie.Need-clip-of-requires
 clip-of-requires c κs = search needs
 
-to-color-requires : tie.Need-to-color-requires
-to-color-requires c κs = search needs
+color-of-requires : tie.Need-color-of-requires
+color-of-requires c κs = search needs
 
 fill-rect-requires : tie.Need-fill-rect-requires
 fill-rect-requires c κs = search needs
 
-count-requires : tie.Need-count-requires
-count-requires c κs = search needs
-
-status-requires : tie.Need-status-requires
-status-requires c κs = search needs
+give-drawn-requires : tie.Need-give-drawn-requires
+give-drawn-requires c κs = search needs
 
 same-length : tie.Need-same-length
 same-length c = search needs
 
 returns : tie.Need-returns
 returns c =
-    let a = c .before .before .before .before .before .before .before .before .before .before .args in
-    let f = c .before .before .before .before .before .before .before .before .before .before .fits in
-    exports (a .argb) (a .bytes .now) (c .before .before .before .before .fill-rect .result) (λ x y _ _ k z. fillRect x y (a .w) (a .h) k z) (f .x) (f .y) (f .x) (f .y) (f .cx) (f .cy) (c .before .before .before .before .before .before .before .before .canvas-of .ensures) (c .before .before .before .before .before .before .before .clip-of .ensures) (c .before .before .before .before .before .before .to-color .ensures) (c .status .ensures) (c .before .count .ensures) (c .before .before .before .before .fill-rect .ensures)
+    let d = c .before .before .before .before in
+    let color-of = d .before .before in
+    let clip-of = color-of .before in
+    let canvas-of = clip-of .before in
+    let start = canvas-of .before .before in
+    let a = start .args in
+    let f = start .fits in
+    exports (a .argb) (a .bytes .now) (d .fill-rect .result) (λ x y _ _ k z. fillRect x y (a .w) (a .h) k z) (f .x) (f .y) (f .x) (f .y)
+    (canvas-of .canvas-of .ensures) (clip-of .clip-of .ensures) (color-of .color-of .ensures) (c .give-drawn .ensures) (d .fill-rect .ensures)
 
 pub tuyrashka-fill-rect-spec : {M : Type 1} → statement M
 tuyrashka-fill-rect-spec =
@@ -38,9 +41,8 @@ tuyrashka-fill-rect-spec =
     (tie.spec
     canvas-of-requires
     clip-of-requires
-    to-color-requires
+    color-of-requires
     fill-rect-requires
-    count-requires
-    status-requires
+    give-drawn-requires
     same-length
     returns)

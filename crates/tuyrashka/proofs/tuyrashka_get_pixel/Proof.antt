@@ -31,15 +31,30 @@ from-color-requires c κs = search needs
 
 returns : tie.Need-returns
 unfolding statusOf seenOf tells
-returns c = shows (c .before .before .before .before .before .before .before .args .bytes .now) (c .before .before .before .before .get-pixel .result) (c .before .before .before .before .before .before .before .fits .x) (c .before .before .before .before .before .before .before .fits .y) (c .before .before .before .before .before .canvas-of .ensures) (rw (c .before .before .p .given .1, c .number .ensures) refl) (c .before .before .before .before .get-pixel .ensures)
+returns c =
+    let get = c .before .before .before .before in
+    let canvas-of = get .before in
+    let start = canvas-of .before .before in
+    shows (start .args .bytes .now) (get .get-pixel .result) (start .fits .x) (start .fits .y) (canvas-of .canvas-of .ensures)
+    (rw (c .before .before .p .given .1, c .number .ensures) refl) (get .get-pixel .ensures)
 
 returns-2 : tie.Need-returns-2
 unfolding statusOf seenOf tells
-returns-2 c = shows (c .before .before .before .before .before .args .bytes .now) (c .before .before .get-pixel .result) (c .before .before .before .before .before .fits .x) (c .before .before .before .before .before .fits .y) (c .before .before .before .canvas-of .ensures) (rw (c .enum-told .given .1) refl) (c .before .before .get-pixel .ensures)
+returns-2 c =
+    let get = c .before .before in
+    let canvas-of = get .before in
+    let start = canvas-of .before .before in
+    shows (start .args .bytes .now) (get .get-pixel .result) (start .fits .x) (start .fits .y) (canvas-of .canvas-of .ensures)
+    (rw (c .enum-told .given .1) refl) (get .get-pixel .ensures)
 
 returns-3 : tie.Need-returns-3
 unfolding statusOf seenOf tells formatOf
-returns-3 c = shows (c .before .before .before .before .before .before .before .args .bytes .now) (c .before .before .before .before .get-pixel .result) (c .before .before .before .before .before .before .before .fits .x) (c .before .before .before .before .before .before .before .fits .y) (c .before .before .before .before .before .canvas-of .ensures) (rw (c .before .before .p2 .given .1, c .from-color .ensures) refl) (c .before .before .before .before .get-pixel .ensures)
+returns-3 c =
+    let get = c .before .before .before .before in
+    let canvas-of = get .before in
+    let start = canvas-of .before .before in
+    shows (start .args .bytes .now) (get .get-pixel .result) (start .fits .x) (start .fits .y) (canvas-of .canvas-of .ensures)
+    (rw (c .before .before .p2 .given .1, c .from-color .ensures) refl) (get .get-pixel .ensures)
 
 pub tuyrashka-get-pixel-spec : {M : Type 1} → statement M
 tuyrashka-get-pixel-spec =

@@ -3,7 +3,7 @@ use borrow.Author.Needs.{needs}
 use mathlib.Core.Path.{_≡_, refl, sym, _∙_}
 use mathlib.Core.Bool.{Bool, true, false, cond}
 use lib.Ieee.{Float, binary32, ofBits, sub, add, div, neg, eq, lt}
-use Rattle.number.specs.Size.{plusZero, absOf, signOf}
+use Rattle.floats.specs.Size.{plusZero, absOf, signOf}
 use Rattle.angle.specs.Arctangent.{ofRatio, directionOf}
 use Rattle.angle.proofs.arctangent.direction.Statement.{statement}
 use Rattle.angle.proofs.arctangent.direction.Tie as tie

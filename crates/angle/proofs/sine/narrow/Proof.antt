@@ -8,7 +8,7 @@ use native.Mathlib.Omega.{arith}
 use lib.Dec.{T, leb, ltb}
 use lib.Ieee.{Float, nan, inf, fin, binary32, binary64, ofBits, toBits, nanBits, le, lt, eq, isNan, fits}
 use lib.Ieee.Bits.{toBits-lt, nanBits-above}
-use Rattle.number.proofs.Range.{yes, no}
+use Rattle.floats.proofs.Range.{yes, no}
 use Rattle.angle.specs.Sine.{zero, keptOf, narrowOf}
 use Rattle.angle.proofs.sine.narrow.Statement.{statement}
 use Rattle.angle.proofs.sine.narrow.Tie as tie

@@ -6,7 +6,7 @@ use Prim.Native.Nat.{ℕ, _+_, _%_}
 use native.Mathlib.Omega.{arith}
 use lib.Dec.{T}
 use lib.Ieee.{Float, binary32, binary64, neg, mul, sub, lt, ofBits, toBits, fits, isNan}
-use Rattle.number.proofs.Range.{yes}
+use Rattle.floats.proofs.Range.{yes}
 use Rattle.angle.specs.declared.sine.SineCosine.{SineCosine}
 use Rattle.angle.specs.Meaning.{placed}
 use Rattle.angle.specs.Sine.{zero, many, sizeOf, countedOf, offOf, sizedOf, restOf, sineFrom, cosineFrom}

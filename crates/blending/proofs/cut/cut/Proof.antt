@@ -6,7 +6,7 @@ use native.Mathlib.Omega.{arith}
 use borrow.Author.Needs.{needs}
 use lib.Dec.{T}
 use lib.Ieee.{Float, binary32, lt, ofBits, add, isNan}
-use Rattle.number.specs.Whole.{asU8}
+use Rattle.floats.specs.Whole.{asU8}
 use Rattle.blending.specs.Blend.{channel}
 use Rattle.blending.specs.Inner.{raised, lowered}
 use Rattle.blending.proofs.Held.{Keeps, held-keeps, big, shown, shows, one-more, the-same}

@@ -9,13 +9,13 @@ use Rattle.canvas.proofs.plot.dab.Statement.{statement}
 use Rattle.canvas.proofs.plot.dab.Tie as tie
 
 is-covered-requires : tie.Need-is-covered-requires
-is-covered-requires c κs = (omega (arith, c .before .pre .1 .0 .ordered-x, c .before .pre .1 .0 .held-x, c .before .pre .0 .wide), omega (arith, c .before .pre .1 .0 .held-x, c .before .pre .0 .wide))
+is-covered-requires c κs = let p = c .before .pre in (p .1 .0 .ordered-x, omega (arith, p .1 .0 .held-x, p .0 .wide))
 
 returns : tie.Need-returns
 returns c = misses-x (c .before .before .before .args .canvas) (c .before .before .before .args .xs) (c .before .before .before .args .ys) (inked (c .before .before .before .args .ink)) (c .before .before .before .args .p) (c .before .before .before .args .q) _ (sym (c .before .is-covered .ensures) ∙ not-true _ (c .if1 .taken))
 
 is-covered-requires-2 : tie.Need-is-covered-requires-2
-is-covered-requires-2 c κs = (omega (arith, c .before .before .before .pre .1 .0 .ordered-y, c .before .before .before .pre .1 .0 .held-y, c .before .before .before .pre .0 .high), omega (arith, c .before .before .before .pre .1 .0 .held-y, c .before .before .before .pre .0 .high))
+is-covered-requires-2 c κs = let p = c .before .before .before .pre in (p .1 .0 .ordered-y, omega (arith, p .1 .0 .held-y, p .0 .high))
 
 returns-2 : tie.Need-returns-2
 returns-2 c = misses-y (c .before .before .before .before .before .args .canvas) (c .before .before .before .before .before .args .xs) (c .before .before .before .before .before .args .ys) (inked (c .before .before .before .before .before .args .ink)) (c .before .before .before .before .before .args .p) (c .before .before .before .before .before .args .q) _ (sym (c .before .is-covered2 .ensures) ∙ not-true _ (c .if2 .taken))

@@ -12,7 +12,7 @@ use lib.Ieee.{Float}
 use mir.Syntax.{w32}
 use mir.Val.{Fits, SFits, toZ, ofZ}
 use mir.ValLaws.{toZ-ofZ}
-use Rattle.number.specs.Whole.{roundAs, atLeast0}
+use Rattle.floats.specs.Whole.{roundAs, atLeast0}
 use Rattle.curves.specs.Corners.{insetOf}
 use Rattle.curves.proofs.corners.inset.Statement.{statement}
 use Rattle.curves.proofs.corners.inset.Tie as tie

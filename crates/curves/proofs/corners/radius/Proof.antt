@@ -5,8 +5,8 @@ use Prim.Native.Nat.{ℕ, min}
 use mathlib.Core.Bool.{false}
 use lib.IntN.{pos}
 use lib.Ieee.{Float, ofBits, fin, binary32, ofInt, div}
-use Rattle.number.specs.Size.{maxOf}
-use Rattle.curves.specs.Ovals.{half}
+use Rattle.floats.specs.Size.{maxOf}
+use Rattle.curves.specs.Oval.{half}
 use Rattle.curves.specs.Corners.{radiusOf}
 use Rattle.curves.proofs.corners.radius.Statement.{statement}
 use Rattle.curves.proofs.corners.radius.Tie as tie

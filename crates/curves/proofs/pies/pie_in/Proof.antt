@@ -7,11 +7,11 @@ use mir.ValLaws.{toZ-ofZ}
 use Prim.Native.Nat.{ℕ}
 use lib.IntN.{ℤ}
 use lib.Ieee.{Float, binary32, ofInt}
-use Rattle.curves.specs.declared.ovals.Oval.{Oval}
+use Rattle.curves.specs.declared.oval.Oval.{Oval}
 use Rattle.curves.specs.declared.pies.Sweep.{Sweep}
 use Rattle.curves.specs.declared.pies.Degrees.{Degrees}
 use Rattle.curves.specs.declared.pies.Pie.{Pie}
-use Rattle.curves.specs.Ovals.{ovalOf}
+use Rattle.curves.specs.Oval.{ovalOf}
 use Rattle.curves.specs.Pies.{sweepOf, degreesOf, pieOf}
 use Rattle.curves.proofs.Signs.{as-given}
 use Rattle.curves.proofs.pies.pie_in.Statement.{statement}

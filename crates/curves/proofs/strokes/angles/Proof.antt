@@ -3,7 +3,7 @@ use mathlib.Core.Path.{_≡_, sym, _∙_}
 use Prim.Native.Nat.{ℕ, _+_, _-_}
 use native.Mathlib.Omega.{arith}
 use lib.IntN.{pos}
-use lib.Ieee.{Float, binary32, ofInt, add, mul, div}
+use lib.Ieee.{Float, nan, binary32, ofInt, add, mul, div}
 use Rattle.angle.specs.Stroke.{strokeAngle}
 use Rattle.curves.specs.Strokes.{anglesFrom}
 use Rattle.curves.proofs.strokes.Sixteen.{Filled, filled-none, filled-more, filled-all, angles-length, angles-at}
@@ -11,7 +11,7 @@ use Rattle.curves.proofs.strokes.angles.Statement.{statement}
 use Rattle.curves.proofs.strokes.angles.Tie as tie
 
 abbrev Inv-loop : tie.InvT-loop
-Inv-loop start sweep i steps ts₀ by j₀ ts j = Filled (λ (k : ℕ). strokeAngle start sweep (i + k) steps) j ts
+Inv-loop start sweep i steps ts₀ by j₀ ts j = Filled nan (λ (k : ℕ). strokeAngle start sweep (i + k) steps) j ts
 
 abbrev μ-loop : tie.MeasureT-loop
 μ-loop start sweep i steps ts₀ by j₀ ts j = 16 - j

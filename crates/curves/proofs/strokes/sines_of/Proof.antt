@@ -7,12 +7,12 @@ use lib.ListN.{length, getD}
 use lib.Ieee.{Float, nan}
 use Rattle.angle.specs.declared.sine.SineCosine.{SineCosine}
 use Rattle.angle.specs.Sine.{sineOf, cosineOf, sineCosineOf}
-use Rattle.curves.proofs.strokes.Sixteen.{Filled, filled-none, filled-more, filled-all, map-at, map-long}
+use Rattle.curves.proofs.strokes.Sixteen.{Filled, filled-none, filled-more, mapped}
 use Rattle.curves.proofs.strokes.sines_of.Statement.{statement}
 use Rattle.curves.proofs.strokes.sines_of.Tie as tie
 
 abbrev Inv-loop : tie.InvT-loop
-Inv-loop ts ss₀ cs₀ j₀ ss cs j = (Filled (λ (i : ℕ). sineOf (getD ts i nan)) j ss) × (Filled (λ (i : ℕ). cosineOf (getD ts i nan)) j cs)
+Inv-loop ts ss₀ cs₀ j₀ ss cs j = (Filled nan (λ (i : ℕ). sineOf (getD ts i nan)) j ss) × (Filled nan (λ (i : ℕ). cosineOf (getD ts i nan)) j cs)
 
 abbrev μ-loop : tie.MeasureT-loop
 μ-loop ts ss₀ cs₀ j₀ ss cs j = 16 - j
@@ -62,14 +62,11 @@ same-length c = c .before .loop .inv .0 .long ∙ sym (c .before .before .before
 same-length-2 : tie.Need-same-length-2 Inv-loop μ-loop
 same-length-2 c = c .before .loop .inv .1 .long ∙ sym (c .before .before .before .before .before .pre .1 .1)
 
-all : (g : Float → Float) (ts ws : List Float) {j : ℕ} → length ts ≡ 16 → 16 ≤ j → Filled (λ (i : ℕ). g (getD ts i nan)) j ws → ws ≡ map g ts
-all g ts ws e l f = filled-all (map g ts) l (map-long g ts e) (λ i h. map-at g ts i (omega arith)) f
-
 returns : tie.Need-returns Inv-loop μ-loop
 returns c =
     let l = c .before .loop in
     let p = c .before .before .before .before .before in
-    (all sineOf (p .args .ts .now) (l .ss) (p .pre .0) (c .loop-test .left) (l .inv .0), all cosineOf (p .args .ts .now) (l .cs) (p .pre .0) (c .loop-test .left) (l .inv .1))
+    (mapped nan sineOf (p .args .ts .now) (l .ss) (p .pre .0) (c .loop-test .left) (l .inv .0), mapped nan cosineOf (p .args .ts .now) (l .cs) (p .pre .0) (c .loop-test .left) (l .inv .1))
 
 pub sines-of-spec : {M : Type 1} → statement M
 sines-of-spec =

@@ -7,9 +7,9 @@ use native.Mathlib.Nat.{min-le-right}
 use native.Mathlib.Omega.{arith}
 use lib.Dec.{lit≤}
 use lib.Ieee.{Float, nan, inf, fin, up, down, binary32, mul, ofBits}
-use Rattle.number.specs.Size.{one, absOf, maxOf}
-use Rattle.number.specs.Whole.{ceilSize}
-use Rattle.curves.specs.declared.ovals.Oval.{Oval}
+use Rattle.floats.specs.Size.{one, absOf, maxOf}
+use Rattle.floats.specs.Whole.{ceilSize}
+use Rattle.curves.specs.declared.oval.Oval.{Oval}
 use Rattle.curves.specs.Strokes.{strokeRadius, stepsOf}
 use Rattle.curves.proofs.strokes.steps.Statement.{statement}
 use Rattle.curves.proofs.strokes.steps.Tie as tie

@@ -4,4 +4,4 @@ use Rattle.exports.proofs.numbers.number_abs.Statement.{statement}
 use Rattle.exports.proofs.numbers.number_abs.Tie as tie
 
 pub number-abs-spec : {M : Type 1} → statement M
-number-abs-spec = tie.close (tie.spec (λ c κs. search needs) (λ c. c .abs .ensures))
+number-abs-spec = tie.close (tie.spec (λ c κs. search needs) (λ c. search needs))

@@ -4,4 +4,4 @@ use Rattle.exports.proofs.numbers.number_rem_euclid_360.Statement.{stat
 use Rattle.exports.proofs.numbers.number_rem_euclid_360.Tie as tie
 
 pub number-rem-euclid-360-spec : {M : Type 1} → statement M
-number-rem-euclid-360-spec = tie.close (tie.spec (λ c κs. search needs) (λ c. c .rem-euclid-360 .ensures))
+number-rem-euclid-360-spec = tie.close (tie.spec (λ c κs. search needs) (λ c. search needs))

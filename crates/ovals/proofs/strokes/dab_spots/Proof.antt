@@ -1,7 +1,8 @@
 -- What is left of the points leads to the same end.
 use native.Mathlib.Omega.{arith}
-use Rattle.words.specs.Ink.{inked}
 use Prim.Native.Nat.{_-_}
+use mir.Facts.{fits-widen}
+use Rattle.words.specs.Ink.{inked}
 use Rattle.canvas.specs.Walk.{work}
 use Rattle.pixels.proofs.bytes.Pixels.{sized-length}
 use Rattle.canvas.proofs.plot.Dabs.{dabbing-length}
@@ -10,52 +11,56 @@ use Rattle.ovals.proofs.strokes.dab_spots.Statement.{statement}
 use Rattle.ovals.proofs.strokes.dab_spots.Tie as tie
 
 abbrev Inv-loop : tie.InvT-loop
-Inv-loop canvas b₀ xs ys n o ss cs m ink t₀ j₀ b t j = Spotting o ss cs canvas xs ys (inked ink) m j (work b t) (work b₀ t₀)
+Inv-loop canvas b₀ xs ys n ps qs m ink t₀ j₀ b t j = Spotting ps qs canvas xs ys (inked ink) m j (work b t) (work b₀ t₀)
 
 abbrev μ-loop : tie.MeasureT-loop
-μ-loop canvas b₀ xs ys n o ss cs m ink t₀ j₀ b t j = m - j
+μ-loop canvas b₀ xs ys n ps qs m ink t₀ j₀ b t j = m - j
 
 loop-holds : tie.Need-loop-holds Inv-loop μ-loop
-loop-holds c = let a = c .before .before .before .args in spotting-start (a .o) (a .ss .now) (a .cs .now)
+loop-holds c = let a = c .before .before .before .args in spotting-start (a .ps .now) (a .qs .now)
 
-mul-sine : tie.Need-mul-sine Inv-loop μ-loop
-mul-sine c = record { fits = omega (arith, c .loop-test .taken, c .before .before .before .before .before .pre .1 .1 .1 .0) }
+mul-dab : tie.Need-mul-dab Inv-loop μ-loop
+mul-dab c = record { fits = omega (arith, c .before .loop-test .taken, c .before .before .before .before .before .before .pre .0 .1 .1 .1) }
 
-shared-slice-read-sine : tie.Need-shared-slice-read-sine Inv-loop μ-loop
-shared-slice-read-sine c = let p = c .before .before .before .before .before .before .pre .1 .1 .1 in omega (arith, c .before .loop-test .taken, p .0, p .1 .0)
+shared-slice-read-dab : tie.Need-shared-slice-read-dab Inv-loop μ-loop
+shared-slice-read-dab c = let p = c .before .before .before .before .before .before .before .pre in omega (arith, c .before .before .loop-test .taken, p .0 .1 .1 .1, p .1 .0)
 
-mul-cosine : tie.Need-mul-cosine Inv-loop μ-loop
-mul-cosine c = record { fits = omega (arith, c .before .loop-test .taken, c .before .before .before .before .before .before .pre .1 .1 .1 .0) }
+cast-dab : tie.Need-cast-dab Inv-loop μ-loop
+cast-dab c = fits-widen tt (c .shared-slice-known3 .given (c .before .before .before .loop .j))
 
-shared-slice-read-cosine : tie.Need-shared-slice-read-cosine Inv-loop μ-loop
-shared-slice-read-cosine c = let p = c .before .before .before .before .before .before .before .pre .1 .1 .1 in omega (arith, c .before .before .loop-test .taken, p .0, p .1 .1 .0)
+mul-dab-2 : tie.Need-mul-dab-2 Inv-loop μ-loop
+mul-dab-2 c = record { fits = omega (arith, c .before .before .loop-test .taken, c .before .before .before .before .before .before .before .pre .0 .1 .1 .1) }
 
-spot-at-requires : tie.Need-spot-at-requires Inv-loop μ-loop
-spot-at-requires c κs = tt
+shared-slice-read-dab-2 : tie.Need-shared-slice-read-dab-2 Inv-loop μ-loop
+shared-slice-read-dab-2 c =
+    let p = c .before .before .before .before .before .before .before .before .pre in
+    omega (arith, c .before .before .before .loop-test .taken, p .0 .1 .1 .1, p .1 .1 .0)
 
-dab-spot-requires : tie.Need-dab-spot-requires Inv-loop μ-loop
-dab-spot-requires c κs =
-    let s = c .before .before .before .before .before .before .before .before .before in
-    let a = s .args in
-    let l = c .before .before .before .before .before .loop .inv in (
-      sized-length (dabbing-length (l .rest)) (s .pre .0),
-      (s .pre .1 .0, (s .pre .1 .1 .0, spotting-room (a .o) (a .ss .now) (a .cs .now) (s .pre .1 .1 .1 .1 .1 .1) (c .before .before .before .before .loop-test .taken) l)),
+cast-dab-2 : tie.Need-cast-dab-2 Inv-loop μ-loop
+cast-dab-2 c = fits-widen tt (c .shared-slice-known4 .given (c .before .before .before .before .loop .j))
+
+dab-requires : tie.Need-dab-requires Inv-loop μ-loop
+dab-requires c κs =
+    let l = c .before .before .before in
+    let s = l .before .before .before .before .before in
+    let i = l .before .loop .inv in (
+      sized-length (dabbing-length (i .rest)) (s .pre .0 .0),
+      (s .pre .0 .1 .0, (s .pre .0 .1 .1 .0, spotting-room (s .args .ps .now) (s .args .qs .now) (s .pre .1 .1 .1) (l .loop-test .taken) i)),
     )
 
 add-j : tie.Need-add-j Inv-loop μ-loop
 add-j c =
-    let l = c .before .before .before .before .before .before .before in
-    record { fits = omega (arith, l .loop-test .taken, l .before .before .before .before .before .pre .1 .1 .1 .0) }
+    let l = c .before .before .before .before .before .before in
+    record { fits = omega (arith, l .loop-test .taken, l .before .before .before .before .before .pre .0 .1 .1 .1) }
 
 loop-less : tie.Need-loop-less Inv-loop μ-loop
-loop-less c = omega (arith, c .before .before .before .before .before .before .before .loop-test .taken)
+loop-less c = omega (arith, c .before .before .before .before .before .before .loop-test .taken)
 
 loop-again : tie.Need-loop-again Inv-loop μ-loop
 loop-again c =
-    let e = c .before .before .before .before in
-    let a = e .before .before .before .before .before .before .before .before .args in
-    spotting-turn (a .o) (a .ss .now) (a .cs .now) (e .before .before .before .loop-test .taken) (e .spot-at .ensures) (c .before .before .dab-spot .ensures)
-    (e .before .before .before .before .loop .inv)
+    let l = c .before .before .before .before .before .before in
+    let a = l .before .before .before .before .before .args in
+    spotting-turn (a .ps .now) (a .qs .now) (l .loop-test .taken) (c .before .before .dab .ensures) (l .before .loop .inv)
 
 same-length : tie.Need-same-length Inv-loop μ-loop
 same-length c = dabbing-length (c .before .loop .inv .rest)
@@ -63,7 +68,7 @@ same-length c = dabbing-length (c .before .loop .inv .rest)
 returns : tie.Need-returns Inv-loop μ-loop
 returns c =
     let a = c .before .before .before .before .before .args in
-    spotting-end (a .o) (a .ss .now) (a .cs .now) (c .loop-test .left) (c .before .loop .inv)
+    spotting-end (a .ps .now) (a .qs .now) (c .loop-test .left) (c .before .loop .inv)
 
 pub dab-spots-spec : {M : Type 1} → statement M
 dab-spots-spec =
@@ -72,12 +77,13 @@ dab-spots-spec =
     Inv-loop
     μ-loop
     loop-holds
-    mul-sine
-    shared-slice-read-sine
-    mul-cosine
-    shared-slice-read-cosine
-    spot-at-requires
-    dab-spot-requires
+    mul-dab
+    shared-slice-read-dab
+    cast-dab
+    mul-dab-2
+    shared-slice-read-dab-2
+    cast-dab-2
+    dab-requires
     add-j
     loop-less
     loop-again

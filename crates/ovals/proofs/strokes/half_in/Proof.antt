@@ -3,7 +3,7 @@ use native.Mathlib.Omega.{arith}
 use mathlib.Core.Path.{ap, _∙_}
 use lib.Ieee.{ofBits}
 use Rattle.words.specs.Ink.{inked}
-use Rattle.number.specs.Degrees.{radiansOf}
+use Rattle.floats.specs.Degrees.{radiansOf}
 use Rattle.ovals.specs.Strokes.{stroke}
 use Rattle.canvas.proofs.boxes.Chains.{did-le, did-sized}
 use Rattle.ovals.proofs.strokes.Quarters.{stroke-le, ninety, half-did}

@@ -1,41 +1,38 @@
 -- What is left of the stroke leads to the same end.
 use native.Mathlib.Omega.{arith}
 use mathlib.Core.Path.{_≡_, refl, ap, _∙_}
-use mathlib.Core.List.{List, map}
+use mathlib.Core.List.{List}
 use Prim.Native.Nat.{ℕ, suc, _+_, _-_, _≤_}
 use lib.ListN.{length}
-use lib.Ieee.{Float}
-use Rattle.angle.specs.Sine.{sineOf, cosineOf}
-use Rattle.curves.specs.Strokes.{anglesFrom}
-use Rattle.curves.proofs.strokes.Sixteen.{angles-length, map-long}
+use Rattle.curves.specs.Strokes.{Spot}
 use Rattle.words.specs.Ink.{inked}
 use Rattle.canvas.specs.Plot.{Point}
-use Rattle.canvas.specs.Walk.{work, dabs}
+use Rattle.canvas.specs.Walk.{lifted, work, dabs}
 use Rattle.pixels.proofs.bytes.Pixels.{sized-length}
 use Rattle.canvas.proofs.plot.Dabs.{dabbing-length}
-use Rattle.ovals.proofs.strokes.Stroking.{sixteen, Stroking, stroking-start, stroking-room, stroking-turn, stroking-end}
+use Rattle.ovals.proofs.strokes.Stroking.{sixteen, all, Stroking, stroking-start, stroking-room, stroking-turn, stroking-end}
 use Rattle.ovals.proofs.strokes.stroke_steps.Statement.{statement}
 use Rattle.ovals.proofs.strokes.stroke_steps.Tie as tie
 use borrow.Author.Needs.{needs}
 
 abbrev Inv-loop : tie.InvT-loop
-Inv-loop canvas b₀ xs ys n o start sweep steps ink ss₀ cs₀ t₀ i₀ b ss cs t i =
-    (Stroking o start sweep steps canvas xs ys (inked ink) i (work b t) (work b₀ t₀)) × ((length ss ≡ 16) × (length cs ≡ 16))
+Inv-loop canvas b₀ xs ys n o start sweep steps ink ps₀ qs₀ t₀ i₀ b ps qs t i =
+    (Stroking o start sweep steps canvas xs ys (inked ink) i (work b t) (work b₀ t₀)) × ((length ps ≡ 16) × (length qs ≡ 16))
 
 abbrev μ-loop : tie.MeasureT-loop
-μ-loop canvas b₀ xs ys n o start sweep steps ink ss₀ cs₀ t₀ i₀ b ss cs t i = suc steps - i
+μ-loop canvas b₀ xs ys n o start sweep steps ink ps₀ qs₀ t₀ i₀ b ps qs t i = suc steps - i
 
 loop-holds : tie.Need-loop-holds Inv-loop μ-loop
 loop-holds c = let a = c .before .args in (stroking-start (a .o) (a .start) (a .sweep) (a .steps), (refl, refl))
 
-slice-aggregate-sines-from : tie.Need-slice-aggregate-sines-from Inv-loop μ-loop
-slice-aggregate-sines-from c = search needs
+slice-aggregate-spots-from : tie.Need-slice-aggregate-spots-from Inv-loop μ-loop
+slice-aggregate-spots-from c = search needs
 
-slice-aggregate-sines-from-2 : tie.Need-slice-aggregate-sines-from-2 Inv-loop μ-loop
-slice-aggregate-sines-from-2 c = search needs
+slice-aggregate-spots-from-2 : tie.Need-slice-aggregate-spots-from-2 Inv-loop μ-loop
+slice-aggregate-spots-from-2 c = search needs
 
-sines-from-requires : tie.Need-sines-from-requires Inv-loop μ-loop
-sines-from-requires c κs =
+spots-from-requires : tie.Need-spots-from-requires Inv-loop μ-loop
+spots-from-requires c κs =
     let l = c .before .before .before .loop .inv in
     (omega (arith, c .before .before .loop-test .taken, c .before .before .before .before .before .pre .1 .1 .1 .0), l .1)
 
@@ -57,32 +54,21 @@ slice-aggregate-dab-spots-2 c = search needs
 cast-dab-spots : tie.Need-cast-dab-spots Inv-loop μ-loop
 cast-dab-spots c = record { fits = omega (arith, c .before .before .before .up-to-16 .ensures) }
 
--- sixteen of them
-all : (g : Float → Float) (start sweep : Float) (steps i : ℕ) {ws : List Float} → ws ≡ map g (anglesFrom start sweep steps i 16) → length ws ≡ 16
-all g start sweep steps i e = ap length e ∙ map-long g (anglesFrom start sweep steps i 16) (angles-length start sweep steps i 16)
-
 dab-spots-requires : tie.Need-dab-spots-requires Inv-loop μ-loop
 dab-spots-requires c κs =
     let e = c .before .before .before .before .before .before in
     let s = e .before .before .before .before .before .before in
     let l = e .before .before .before .before .loop in
     let m = c .before .before .before .up-to-16 in
-    let few : m .result ≤ 16 = omega (arith, m .ensures) in (
-      sized-length (dabbing-length (l .inv .0 .rest)) (s .pre .0),
+    let few : m .result ≤ 16 = omega (arith, m .ensures) in
+    let p = s .args in
+    let k = e .spots-from .ensures in (
+      (sized-length (dabbing-length (l .inv .0 .rest)) (s .pre .0), (s .pre .1 .0, (s .pre .1 .1 .0, few))),
       (
-        s .pre .1 .0,
+        all (p .o) (p .start) (p .sweep) (p .steps) (l .i) (λ (t : Spot). lifted (t .x)) (k .0),
         (
-          s .pre .1 .1 .0,
-          (
-            few,
-            (
-              all sineOf (s .args .start) (s .args .sweep) (s .args .steps) (l .i) (e .sines-from .ensures .0),
-              (
-                all cosineOf (s .args .start) (s .args .sweep) (s .args .steps) (l .i) (e .sines-from .ensures .1),
-                stroking-room (s .args .o) (s .args .start) (s .args .sweep) (s .args .steps) (m .result) (s .pre .1 .1 .1 .0) (s .pre .1 .1 .1 .1) few (l .inv .0),
-              ),
-            ),
-          ),
+          all (p .o) (p .start) (p .sweep) (p .steps) (l .i) (λ (t : Spot). lifted (t .y)) (k .1),
+          stroking-room (p .o) (p .start) (p .sweep) (p .steps) (m .result) (s .pre .1 .1 .1 .0) (s .pre .1 .1 .1 .1) few (l .inv .0),
         ),
       ),
     )
@@ -106,13 +92,16 @@ loop-again c =
     let a = e .before .before .before .before .before .before .args in
     let d = c .before .before .dab-spots in
     let m = u .up-to-16 in
-    let k = e .sines-from .ensures in
+    let k = e .spots-from .ensures in
     let few : m .result ≤ 16 = omega (arith, m .ensures) in
     let held : l .i + m .result ≤ suc (a .steps) = omega (arith, m .ensures, e .before .before .before .loop-test .taken) in
-    let same = sixteen (a .o) (a .start) (a .sweep) (a .steps) (l .i) _ _ (k .0) (k .1) (m .result) few in (
+    let same = sixteen (a .o) (a .start) (a .sweep) (a .steps) (l .i) (k .0) (k .1) (m .result) few in (
       stroking-turn (a .o) (a .start) (a .sweep) (a .steps) (m .result) held
           (d .ensures ∙ ap (λ (ps : List Point). dabs (a .canvas) (a .xs) (a .ys) (inked (a .ink)) ps (work (l .b) (l .t))) same) (l .inv .0),
-      (all sineOf (a .start) (a .sweep) (a .steps) (l .i) (k .0), all cosineOf (a .start) (a .sweep) (a .steps) (l .i) (k .1)),
+      (
+        all (a .o) (a .start) (a .sweep) (a .steps) (l .i) (λ (t : Spot). lifted (t .x)) (k .0),
+        all (a .o) (a .start) (a .sweep) (a .steps) (l .i) (λ (t : Spot). lifted (t .y)) (k .1),
+      ),
     )
 
 same-length : tie.Need-same-length Inv-loop μ-loop
@@ -130,9 +119,9 @@ stroke-steps-spec =
     Inv-loop
     μ-loop
     loop-holds
-    slice-aggregate-sines-from
-    slice-aggregate-sines-from-2
-    sines-from-requires
+    slice-aggregate-spots-from
+    slice-aggregate-spots-from-2
+    spots-from-requires
     add-up-to-16
     sub-up-to-16
     up-to-16-requires

@@ -1,0 +1,9 @@
+pub mod Range
+pub mod Signs
+pub mod Powers
+pub mod Negated
+pub mod Rounds
+pub mod Closest
+pub mod Ones
+pub mod Examples
+pub mod Determined

@@ -1,5 +1,0 @@
--- What the proofs of `round` and `ceil` use.
-pub mod Halves
-pub mod Signed
-pub mod Ceil
-pub mod Small

@@ -1,0 +1,4 @@
+pub mod Ops
+pub mod Answered
+pub mod Replies
+pub mod Determined

@@ -1,0 +1,28 @@
+-- The record of its numbers.
+use Rattle.replies.specs.Numbers.{canvasAt}
+use borrow.Author.Needs.{needs}
+use Rattle.replies.proofs.numbers.sized.Statement.{statement}
+use Rattle.replies.proofs.numbers.sized.Tie as tie
+
+word-requires : tie.Need-word-requires
+word-requires c κs = search needs
+
+add-word : tie.Need-add-word
+add-word c = search needs
+
+word-requires-2 : tie.Need-word-requires-2
+word-requires-2 c κs = search needs
+
+add-word-2 : tie.Need-add-word-2
+add-word-2 c = search needs
+
+word-requires-3 : tie.Need-word-requires-3
+word-requires-3 c κs = search needs
+
+returns : tie.Need-returns
+unfolding canvasAt
+returns c = rw (c .before .before .word .ensures, c .before .word2 .ensures, c .word3 .ensures)
+
+pub sized-spec : {M : Type 1} → statement M
+sized-spec =
+    tie.close (tie.spec word-requires add-word word-requires-2 add-word-2 word-requires-3 returns)

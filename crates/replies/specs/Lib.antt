@@ -1,0 +1,5 @@
+pub mod Ops
+pub mod Numbers
+pub mod Calls
+pub mod Answers
+pub mod Replies

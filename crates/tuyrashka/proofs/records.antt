@@ -1,0 +1,2 @@
+-- The laws of words that are signed numbers.
+pub mod Signs
