@@ -307,6 +307,10 @@ fn unreadable(list: &mut Vec<String>) {
         "0 1 1 0 z fill 0 0 -1 1 255 255 255 255 0 0 1 1",
         "0 1 1 0 z fill 0 0 1 1 255 255 255 0 0 1 1",
         "0 1 1 0 z\tget 0 0",
+        "0 1 1 0 z get 0 0\r",
+        "0 1 1 0 z get 0 0\r\r",
+        "0 1 1 0 z get 0\r 0",
+        "\r",
     ];
     list.extend(lines.map(String::from));
 }

@@ -7,7 +7,7 @@ use lib.IntN.{pos, negsuc, negℤ, pow, one}
 use lib.Ieee.{fin, binary32, ofBits, toBits, round, neg, add, sub, mul, div, le, lt, eq}
 use Rattle.floats.specs.Size.{plusZero, absOf, signOf}
 use Rattle.angle.specs.Meaning.{H, nearestK, rest, whole, coef, term, terms, mod4, placed, sine, cosine}
-use Rattle.angle.specs.Sine.{countedOf, restOf, sizeOf, offOf, sizedOf, tinyOf, sineFrom, sineOn, cosineFrom, cosineOn, narrowOf, sineAt, cosineAt, sineOfSize, cosineOfSize, sineOf, cosineOf}
+use Rattle.angle.specs.Sine.{countedOf, restOf, largerOf, smallerOf, sizeOf, offOf, sizedOf, tinyOf, sineFrom, sineOn, cosineFrom, cosineOn, narrowOf, sineAt, cosineAt, sineOfSize, cosineOfSize, sineOf, cosineOf}
 use Rattle.angle.specs.Arctangent.{evenOf, oddOf, lessOf, fromOf, pastOne, ofRatio, directionOf, arctangentOf}
 
 -- ---- k and the rest
@@ -38,20 +38,20 @@ sine-H = refl
 
 -- ---- the rule of the sine and the cosine
 minus-zero : sineOf (neg plusZero) ≡ neg plusZero
-unfolding sineOf sineOfSize countedOf le lt eq add round toBits restOf sineAt cosineAt sineFrom cosineFrom sizeOf offOf sizedOf tinyOf sineOn cosineOn narrowOf placed mul sub neg ofBits
+unfolding sineOf sineOfSize countedOf le lt eq add round toBits restOf sineAt cosineAt sineFrom cosineFrom sizeOf largerOf smallerOf offOf sizedOf tinyOf sineOn cosineOn narrowOf placed mul sub neg ofBits
 minus-zero = refl
 
 zero-stays : sineOf plusZero ≡ plusZero
-unfolding sineOf sineOfSize countedOf le lt eq add round toBits restOf sineAt cosineAt sineFrom cosineFrom sizeOf offOf sizedOf tinyOf sineOn cosineOn narrowOf placed mul sub ofBits
+unfolding sineOf sineOfSize countedOf le lt eq add round toBits restOf sineAt cosineAt sineFrom cosineFrom sizeOf largerOf smallerOf offOf sizedOf tinyOf sineOn cosineOn narrowOf placed mul sub ofBits
 zero-stays = refl
 
 -- sin 1 and cos 1
 sine-1 : sineOf (ofBits binary32 0x3F80_0000) ≡ ofBits binary32 0x3F57_6AA4
-unfolding sineOf sineOfSize countedOf le lt eq add round toBits restOf sineAt cosineAt sineFrom cosineFrom sizeOf offOf sizedOf tinyOf sineOn cosineOn narrowOf placed mul sub neg ofBits
+unfolding sineOf sineOfSize countedOf le lt eq add round toBits restOf sineAt cosineAt sineFrom cosineFrom sizeOf largerOf smallerOf offOf sizedOf tinyOf sineOn cosineOn narrowOf placed mul sub neg ofBits
 sine-1 = refl
 
 cosine-1 : cosineOf (ofBits binary32 0x3F80_0000) ≡ ofBits binary32 0x3F0A_5140
-unfolding cosineOf cosineOfSize countedOf le lt eq add round toBits restOf sineAt cosineAt sineFrom cosineFrom sizeOf offOf sizedOf tinyOf sineOn cosineOn narrowOf placed mul sub neg ofBits
+unfolding cosineOf cosineOfSize countedOf le lt eq add round toBits restOf sineAt cosineAt sineFrom cosineFrom sizeOf largerOf smallerOf offOf sizedOf tinyOf sineOn cosineOn narrowOf placed mul sub neg ofBits
 cosine-1 = refl
 
 -- ---- the rule of the arctangent, outside its domain too

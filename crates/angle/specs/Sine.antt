@@ -1,28 +1,31 @@
 -- "one written rule that determines the answer": the angle's size brought near 0 by quarters, and the sine and the cosine of the
 -- rest by two polynomials, all in f64, each rounded to f32 once. Definitions only.
 use Prim.Native.Nat.{ℕ, _+_, _-_, _/_, _%_}
-use mathlib.Core.Bool.{Bool, true, false, _&&_, cond}
-use lib.Dec.{leb, ltb}
-use lib.IntN.{pos}
+use mathlib.Core.Bool.{Bool, false, cond}
+use lib.IntN.{pos, negsuc}
 use lib.Ieee.{Float, fin, binary32, binary64, neg, add, sub, mul, le, lt, ofBits, toBits}
 use Rattle.angle.specs.declared.sine.SineCosine.{SineCosine}
 use Rattle.angle.specs.Meaning.{placed}
 
 -- ---- the angle's size
 
--- 26 either way.
+-- 2 ^ -12 and 26.
 abbrev pub least : Float
-least = fin true 13 (pos 1)
+least = fin false 1 (negsuc 11)
 
 abbrev pub most : Float
 most = fin false 13 (pos 1)
 
-abbrev pub zero : Float
-zero = ofBits binary64 0
+-- The larger of two, and the smaller; the second where the first is a NaN.
+unfoldable pub largerOf : Float → Float → Float
+largerOf a b = cond (lt b a) a b
 
--- The size of t; 0 beyond 26 and for a NaN.
+unfoldable pub smallerOf : Float → Float → Float
+smallerOf a b = cond (le a b) a b
+
+-- The size of t, held to 2 ^ -12 from below and to 26 from above; 2 ^ -12 for a NaN.
 unfoldable pub sizeOf : Float → Float
-sizeOf t = cond (le least t && le t most) (cond (lt t (ofBits binary32 0)) (neg t) t) zero
+sizeOf t = smallerOf (largerOf (neg t) (largerOf t least)) most
 
 -- ---- the quarters nearest to it, and the rest
 
@@ -44,6 +47,9 @@ high = ofBits binary64 0x3FF9_21FB_5444_2D00
 
 abbrev pub small : Float
 small = ofBits binary64 0x3CF8_0000_0000_0000
+
+abbrev pub zero : Float
+zero = ofBits binary64 0
 
 -- (x - j * high) - j * small, and its size
 unfoldable pub offOf : Float → Float → Float
@@ -102,17 +108,15 @@ cosineFrom z = cosineOn z (mul binary64 z z)
 abbrev pub keptOf : ℕ → ℕ
 keptOf b = (b + 0x1000_0000) / 0x2000_0000
 
--- From 2 ^ -126, the first f32 that has all its digits, up to 2; 0 for every other number. An f32's exponent is 896 less.
+-- Of d from 2 ^ -126, the first f32 that has all its digits, up to 2. An f32's exponent is 896 less.
 unfoldable pub narrowOf : Float → Float
-narrowOf d =
-    let b = toBits binary64 d in
-    cond (le zero d && (leb 0x3810_0000_0000_0000 b && ltb b 0x4000_0000_0000_0000)) (ofBits binary32 (keptOf b - 0x1_C000_0000)) (ofBits binary32 0)
+narrowOf d = ofBits binary32 (keptOf (toBits binary64 d) - 0x1_C000_0000)
 
 -- ---- the answers
 
--- Below 2 ^ -12 in size the sine is the angle itself, and the cosine 1.
+-- Up to 2 ^ -12 in size the sine is the angle itself, and the cosine that of 2 ^ -12, which is 1.
 unfoldable pub tinyOf : Float → Bool
-tinyOf t = lt t (ofBits binary32 0x3980_0000) && lt (neg (ofBits binary32 0x3980_0000)) t
+tinyOf t = le (sizeOf t) least
 
 -- The sine of the rest d, which is odd, and its cosine, which is even.
 unfoldable pub sineAt : Float → Float
@@ -140,7 +144,7 @@ sineOf t =
     cond (tinyOf t) t (cond (lt t (ofBits binary32 0)) (neg y) y)
 
 unfoldable pub cosineOf : Float → Float
-cosineOf t = cond (tinyOf t) (ofBits binary32 0x3F80_0000) (cosineOfSize (sizeOf t))
+cosineOf t = cosineOfSize (sizeOf t)
 
 unfoldable pub sineCosineOf : Float → SineCosine
 sineCosineOf t = record { sine = sineOf t; cosine = cosineOf t }

@@ -1,6 +1,7 @@
 pub mod Line
 pub mod Number
 pub mod Seed
+pub mod Ops
 pub mod Row
 pub mod Case
 pub mod Hash

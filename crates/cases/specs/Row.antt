@@ -4,6 +4,7 @@ use mathlib.Core.List.{List, [], _∷_, _++_}
 use Prim.Native.Nat.{ℕ, _+_}
 use lib.Dec.{eqb}
 use lib.ListN.{set, replicate}
+use Rattle.cases.specs.Ops as ops
 use Rattle.cases.specs.Line.{Left, Got, got}
 use Rattle.cases.specs.Number.{numeric}
 use Rattle.cases.specs.Seed.{Sown, given, seedOf, fileOf}
@@ -44,29 +45,23 @@ color = c ∷ c ∷ c ∷ c ∷ []
 abbrev pub clip : List ℕ
 clip = point ++ extent
 
--- An op is its letters, two hex digits each. What is no op has no arguments.
+-- What is no op has no arguments.
 unfoldable pub rowOf : ℕ → List ℕ
 rowOf op =
-    -- put, get, line
-    cond (eqb op 0x707574) (point ++ color ++ clip)
-    (cond (eqb op 0x676574) point
-    (cond (eqb op 0x6c696e65) (point ++ point ++ color ++ clip)
-    -- rect, fill
-    (cond (eqb op 0x72656374) (point ++ extent ++ color ++ clip)
-    (cond (eqb op 0x66696c6c) (point ++ extent ++ color ++ clip)
-    -- arc, pie
-    (cond (eqb op 0x617263) (point ++ extent ++ point ++ color ++ clip)
-    (cond (eqb op 0x706965) (point ++ extent ++ point ++ color ++ clip)
-    -- rrect, frrect
-    (cond (eqb op 0x7272656374) (point ++ extent ++ extent ++ color ++ clip)
-    (cond (eqb op 0x667272656374) (point ++ extent ++ extent ++ color ++ clip)
-    -- copy, invert
-    (cond (eqb op 0x636f7079) (point ++ point ++ extent ++ clip)
-    (cond (eqb op 0x696e76657274) (point ++ extent ++ clip)
-    -- draw, lbmp, res
-    (cond (eqb op 0x64726177) (point ++ extent ++ (e ∷ e ∷ e ∷ d ∷ []) ++ point ++ clip)
-    (cond (eqb op 0x6c626d70) (e ∷ f ∷ [])
-    (cond (eqb op 0x726573) (f ∷ []) [])))))))))))))
+    cond (eqb op ops.put) (point ++ color ++ clip)
+    (cond (eqb op ops.get) point
+    (cond (eqb op ops.line) (point ++ point ++ color ++ clip)
+    (cond (eqb op ops.rect) (point ++ extent ++ color ++ clip)
+    (cond (eqb op ops.fill) (point ++ extent ++ color ++ clip)
+    (cond (eqb op ops.arc) (point ++ extent ++ point ++ color ++ clip)
+    (cond (eqb op ops.pie) (point ++ extent ++ point ++ color ++ clip)
+    (cond (eqb op ops.rrect) (point ++ extent ++ extent ++ color ++ clip)
+    (cond (eqb op ops.frrect) (point ++ extent ++ extent ++ color ++ clip)
+    (cond (eqb op ops.copy) (point ++ point ++ extent ++ clip)
+    (cond (eqb op ops.invert) (point ++ extent ++ clip)
+    (cond (eqb op ops.draw) (point ++ extent ++ (e ∷ e ∷ e ∷ d ∷ []) ++ point ++ clip)
+    (cond (eqb op ops.lbmp) (e ∷ f ∷ [])
+    (cond (eqb op ops.res) (f ∷ []) [])))))))))))))
 
 -- The arguments that are numbers, each at its place among the words, and the seed or the file.
 pub record Args : Type 0 where

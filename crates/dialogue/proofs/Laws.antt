@@ -12,7 +12,8 @@ use lib.Seq.{drop-cons, slice, paste, length-take-le, take-take, take-add, drop-
 use borrow.Author.Tests.{eq-eqb, ne-eqb}
 use borrow.Rule.Slice.PartMut.{putMid}
 use Rattle.dialogue.specs.declared.Place.{Place}
-use Rattle.dialogue.specs.Line.{firstLine, OneLine, Stands}
+use Rattle.dialogue.specs.declared.Turn.the-variants.{Unwritten}
+use Rattle.dialogue.specs.Line.{firstLine, OneLine, Stands, top, start, ahead, Follows}
 
 abbrev lead : List ℕ → ℕ
 lead s = length (firstLine s)
@@ -144,3 +145,20 @@ pub at-rest : (p : Place) (t out : List ℕ) → p .at ≡ 0 → p .end ≡ 0 �
 unfolding firstLine
 at-rest p t out a e h u =
     record { first = omega arith; last = omega arith; within = omega arith; room = omega arith; line = rw (a, e) refl }
+
+-- Of a place and the one that is found behind it.
+module _ (p q : Place) (t t′ : List ℕ) where
+  pub unwritten : q .turn ≡ Unwritten → Follows p q t t′
+  unwritten u = record { whole = λ w l. let z : _≡_ {A = ℕ} 0 1 = cc in absurd (let y : ⊥ = omega arith in y) }
+
+  pub not-whole : top p t ≤ ahead p t → Follows p q t t′
+  not-whole h = record { whole = λ w l. absurd (let y : ⊥ = omega arith in y) }
+
+pub ends : (p : Place) (t : List ℕ) (at held n : ℕ) → at ≤ held → held ≤ length t → held ≡ top p t → at ≡ start p t → n ≡ lead (take (held - at) (drop at t))
+    → at + n ≡ ahead p t
+ends p t at held n o f eh ea en =
+    let s : n ≡ lead (slice at held t) = en ∙ ap lead (middle t at held n o f) in
+    rw (← ea, ← eh) (ap (λ (k : ℕ). at + k) s)
+
+pub follows : (p q : Place) (t : List ℕ) → q .at ≡ start p t → q .end ≡ ahead p t → Follows p q t t
+follows p q t a e = record { whole = λ w l. (refl, (a, e)) }

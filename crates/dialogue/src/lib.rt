@@ -1,11 +1,11 @@
 // Lines of an input, one after the other, and the answers to them, written before more is waited for. A program holds a text,
 // of which a place says how much is read and where its line is, and out, of which a place says how much is used.
 ghost use mathlib.Core.Path.{_≡_};
-ghost use Prim.Native.Nat.{_≤_, _+_, _-_, min};
+ghost use Prim.Native.Nat.{_≤_, _-_, min};
 ghost use mathlib.Core.List.{[]};
 ghost use lib.ListN.{length, take};
 ghost use lib.Seq.{slice, paste};
-ghost use Rattle.dialogue.specs.Line.{firstLine, OneLine, Stands};
+ghost use Rattle.dialogue.specs.Line.{firstLine, OneLine, Stands, top, start, ahead, Follows};
 
 // What is at a place: a line, the end of the input, or what could not be done.
 pub enum Turn {
@@ -97,7 +97,7 @@ fn refill(input: i32, text: &mut [u8], at: usize, held: usize) -> Filled
 
 // What no more is read after: nothing is held.
 fn stop(turn: Turn) -> Place
-    ensures { λ r. ⌜ (r .at ≡ 0) × ((r .end ≡ 0) × ((r .held ≡ 0) × (r .used ≡ 0))) ⌝ }
+    ensures { λ r. ⌜ (r .at ≡ 0) × ((r .end ≡ 0) × ((r .held ≡ 0) × ((r .used ≡ 0) × (r .turn ≡ turn)))) ⌝ }
 {
     Place {
         turn,
@@ -160,7 +160,7 @@ fn wait(input: i32, text: &mut [u8], from: usize, to: usize) -> Place
 
 // The line behind the last one, as much of it as is held. No place is beyond the text and out, which has so many bytes.
 fn found(text: &[u8], last: Place, most: usize) -> Place
-    ensures { λ r. ⌜ (r .at ≤ r .end) × ((r .end ≤ r .held) × ((r .held ≤ length (now (text .entry))) × ((r .used ≤ most) × (OneLine (slice (r .at) (r .end) (now (text .entry))) × (r .at ≡ min (last .end + 1) (r .held)))))) ⌝ }
+    ensures { λ r. ⌜ (r .at ≤ r .end) × ((r .end ≤ r .held) × ((r .held ≤ length (now (text .entry))) × ((r .used ≤ most) × (OneLine (slice (r .at) (r .end) (now (text .entry))) × ((r .held ≡ top last (now (text .entry))) × ((r .at ≡ start last (now (text .entry))) × (r .end ≡ ahead last (now (text .entry))))))))) ⌝ }
 {
     let held = least(last.held, text.len());
     let at = least(least(last.end, held) + 1, held);
@@ -178,6 +178,7 @@ fn found(text: &[u8], last: Place, most: usize) -> Place
 // first; then more is read.
 pub fn next(input: i32, output: i32, text: &mut [u8], out: &[u8], last: Place, room: usize) -> Place
     ensures { λ r. ⌜ Stands r (now (text .exit)) (now (out .entry)) ⌝ }
+    ensures { λ r. ⌜ Follows last r (now (text .entry)) (now (text .exit)) ⌝ }
 {
     let p = found(text, last, out.len());
     let whole = p.end < p.held;

@@ -23,7 +23,7 @@ use Rattle.cases.specs.declared.case.Case.{Case}
 use Rattle.cases.specs.declared.answer.Answer.{Answer}
 use Rattle.cases.specs.declared.answer.Found.the-variants as found
 use Rattle.cases.specs.Hash.{hashOf, allBytes}
-use Rattle.replies.specs.Ops as op
+use Rattle.cases.specs.Ops as op
 use Rattle.replies.specs.Numbers.{wordAt, colorAt, clipAt, canvasAt, clipStart}
 use Rattle.replies.specs.Calls.{drawnBy}
 use Rattle.replies.specs.Answers.{answer, told, counted, drew, drawn, looked, decoded, decodedBy, bitmapOf, Response, respondBy, respondTo}

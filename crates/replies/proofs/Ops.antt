@@ -18,7 +18,7 @@ use Rattle.canvas.specs.Areas.{invertRect}
 use Rattle.images.specs.Areas.{copyArea}
 use Rattle.ovals.specs.Call.{drawArc, fillArc, drawRoundRect, fillRoundRect}
 use Rattle.cases.specs.Row.{rowOf, clip}
-use Rattle.replies.specs.Ops as op
+use Rattle.cases.specs.Ops as op
 use Rattle.replies.specs.Numbers.{wordAt, intAt, canvasAt, clipStart}
 use Rattle.replies.specs.Calls.{pictureBy, roundBy, drawnBy}
 

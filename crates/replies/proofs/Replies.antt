@@ -10,7 +10,11 @@ use lib.Seq.{length-take-le, take-length}
 use borrow.Author.Tests.{eq-eqb, ne-eqb, lt-ltb, le-ltb, ltb-false}
 use Rattle.cases.specs.declared.case.Case.{Case}
 use Rattle.cases.specs.declared.answer.Answer.{Answer}
-use Rattle.cases.specs.Case.{Outcome, caseOf}
+use Rattle.cases.specs.Case.{Outcome, noCase, known, caseOf}
+use Rattle.cases.specs.Line.{wordsOf, firstWord, otherWords, after, next}
+use Rattle.cases.specs.Number.{natural, numberOf, numeric, nameOf}
+use Rattle.cases.specs.Seed.{seedOf}
+use Rattle.cases.specs.Row.{rowOf, numbered, seeded, argOf, argsFrom, argsOf}
 use Rattle.cases.specs.Answer.{placed, answered}
 use Rattle.cases.proofs.Texts.{answered-within}
 use Rattle.replies.specs.Answers.{Response, response, respondTo}
@@ -81,3 +85,12 @@ module _ (out : List ℕ) where
   replied-within line b i ws e =
       let x = caseOf (textOf line) b i in
       rw (ap (λ (o : Reply). o .long) e) (reply-by (x .0) (x .1) (x .2) ws (eqb (x .0 .name) 0))
+
+-- An empty line is bad, and so is one that is too long.
+pub empty-is-bad : (b i : List ℕ) → caseOf [] b i ≡ (noCase, b, i)
+unfolding caseOf known argsOf argsFrom argOf numbered seeded numeric numberOf natural seedOf nameOf next after wordsOf firstWord otherWords rowOf
+empty-is-bad b i = refl
+
+pub long-is-bad : (line b i ws out : List ℕ) → 65536 < length (withoutReturn line) → replied line b i ws out ≡ reply (refused out) b i ws
+unfolding replied replyTo textOf
+long-is-bad line b i ws out h = rw (lt-ltb 65536 (length (withoutReturn line)) h, empty-is-bad b i)

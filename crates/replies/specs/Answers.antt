@@ -16,7 +16,7 @@ use Rattle.cases.specs.declared.answer.Answer.{Answer}
 use Rattle.cases.specs.declared.answer.Found.{Found}
 use Rattle.cases.specs.declared.answer.Found.the-variants as found
 use Rattle.cases.specs.Hash.{hashOf, allBytes}
-use Rattle.replies.specs.Ops as op
+use Rattle.cases.specs.Ops as op
 use Rattle.replies.specs.Numbers.{wordAt, intAt, colorAt, clipAt, canvasAt, clipStart}
 use Rattle.replies.specs.Calls.{drawnBy}
 

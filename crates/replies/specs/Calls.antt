@@ -10,7 +10,7 @@ use Rattle.canvas.specs.Call.{draw, putPixel, drawLine, drawRect, fillRect, Out
 use Rattle.canvas.specs.Areas.{invertRect}
 use Rattle.images.specs.Areas.{copyArea}
 use Rattle.ovals.specs.Call.{drawArc, fillArc, drawRoundRect, fillRoundRect}
-use Rattle.replies.specs.Ops as op
+use Rattle.cases.specs.Ops as op
 use Rattle.replies.specs.Numbers.{wordAt, intAt, canvasAt}
 
 -- "copy | dx dy sx sy w h CLIP", "draw | dx dy w h SF SW SH SSEED sx sy CLIP"; what is no drawing op draws nothing.

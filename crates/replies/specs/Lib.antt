@@ -1,4 +1,3 @@
-pub mod Ops
 pub mod Numbers
 pub mod Calls
 pub mod Answers

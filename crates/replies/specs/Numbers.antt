@@ -1,8 +1,8 @@
 -- What the words of a line stand for.
 use mathlib.Core.Bool.{Bool, cond}
 use mathlib.Core.List.{List}
-use Prim.Native.Nat.{ℕ, _+_, _-_, _%_}
-use lib.Dec.{ltb, eqb}
+use Prim.Native.Nat.{ℕ, _+_, _%_}
+use lib.Dec.{eqb}
 use lib.IntN.{ℤ}
 use lib.ListN.{getD}
 use mir.Syntax.{w32}
@@ -10,7 +10,7 @@ use mir.Val.{toZ}
 use Rattle.words.specs.declared.Color.{Color}
 use Rattle.pixels.specs.declared.Canvas.{Canvas}
 use Rattle.canvas.specs.declared.Clip.{Clip}
-use Rattle.replies.specs.Ops as op
+use Rattle.cases.specs.Ops as op
 
 abbrev pub wordAt : List ℕ → ℕ → ℕ
 wordAt n i = getD n i 0

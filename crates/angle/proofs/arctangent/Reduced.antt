@@ -1,15 +1,12 @@
 -- The tangent from a known angle on, as an f32: within ten times 2 ^ -25 of the exact one. Assumes nothing.
-use mathlib.Core.Path.{_≡_, refl, sym, ap, _∙_, subst}
+use mathlib.Core.Path.{_≡_, refl, sym, ap, _∙_}
 use mathlib.Core.Bool.{Bool, true, false, cond}
-use Prim.Native.Nat.{ℕ, zero, suc, _+_, _-_, _*_, _^_, _≤_, _<_}
-use native.Mathlib.Nat.{mul-le-mul-left, mul-le-mul-right, le-of-mul-le-mul-right, eq-of-mul-eq-mul-right, mul-pos}
+use Prim.Native.Nat.{ℕ, _+_, _-_, _*_, _^_, _≤_, _<_}
+use native.Mathlib.Nat.{mul-le-mul-left, mul-le-mul-right, le-of-mul-le-mul-right, mul-pos}
 use native.Mathlib.Omega.{arith}
-use lib.Dec.{T, eqb, eqb→eq, lit≤}
-use lib.Ieee.{Float, nan, inf, fin, binary32, up, down, unlike, round, div, neg}
-use lib.Ieee.Fits.{down-pos}
+use lib.Dec.{lit≤}
+use lib.Ieee.{Float, binary32, up, round, div, neg}
 use lib.Ieee.Exact.{HasValue}
-use lib.Ieee.Scale.{round-same}
-use Rattle.floats.proofs.Range.{yes}
 use Rattle.floats.proofs.Negated.{neg-round}
 use Rattle.angle.specs.Meaning.{D}
 use Rattle.angle.proofs.arctangent.Ops.{div-signed, Val, D-pos, Near, rounds}

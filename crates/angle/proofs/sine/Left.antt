@@ -1,19 +1,18 @@
 -- What is left of an angle by its quarters, in f64: within 5 of `tiny` of the exact rest. Assumes nothing.
 use mathlib.Core.Path.{_≡_, refl, sym, ap, _∙_, subst}
-use mathlib.Core.Bool.{Bool, true, false, not, cond, _&&_}
+use mathlib.Core.Bool.{Bool, true, false, cond}
 use Prim.Native.Nat.{ℕ, zero, suc, _+_, _-_, _*_, _/_, _^_, _≤_, _<_}
 use native.Mathlib.Nat.{lt-of-lt-of-le, lt-irrefl, lt-of-not-le, mul-assoc, mul-one, mul-pos, mul-le-mul-right, le-of-mul-le-mul-right, mul-div-cancel}
 use native.Mathlib.Omega.{arith}
 use lib.Dec.{T, lit≤}
 use lib.Pow.{pow-add, pow-pos, pow-lt}
 use lib.IntN.{ℤ, pos, negsuc}
-use lib.Ieee.{Float, nan, inf, fin, binary32, binary64, up, down, neg, lt, le, mul, sub, ofBits, fits}
+use lib.Ieee.{Float, nan, inf, fin, binary64, up, down, neg, lt, mul, sub, ofBits, fits}
 use lib.Ieee.Fits.{down-pos, cond-fits, neg-fits, sub-fits}
-use borrow.Author.Tests.{lt-ltb, le-ltb, ltb-false}
+use borrow.Author.Tests.{lt-ltb, le-ltb}
 use Rattle.angle.specs.Meaning.{D, H}
 use Rattle.angle.specs.Sine as Rule
-use Rattle.angle.specs.Sine.{most, high, small, sizeOf, offOf, sizedOf, tinyOf}
-use Rattle.angle.proofs.sine.Units.{tests}
+use Rattle.angle.specs.Sine.{high, small, offOf, sizedOf}
 use Rattle.angle.proofs.sine.Doubles.{Near, E, tiny, E-tiny, E-pos, Signed, Val, product-of, Apart, Diff, less-of}
 use Rattle.angle.proofs.sine.Coefficients.{lift}
 
@@ -48,39 +47,6 @@ val-of m e h = (refl, go (m * up e) (m * up e * 2 ^ 149 / down e) (down e) (whol
 
         turn : (x d u : ℕ) → x * d * u ≡ x * u * d
         turn x d u = omega arith
-
--- where it is not tiny, its sign is seen, and the code takes it off
-pub sign-of : (s : Bool) (m : ℕ) (e : ℤ) → tinyOf (fin s m e) ≡ false → lt (fin s m e) (ofBits binary32 0) ≡ s
-unfolding tinyOf lt ofBits neg
-sign-of false m e t = le-ltb (m * up e * 1) (0 * 1 * down e) (nothing (m * up e) (down e))
-  where
-    nothing : (a d : ℕ) → 0 * 1 * d ≤ a * 1
-    nothing a d = omega arith
-sign-of true m e t =
-    lt-ltb 0 (m * up e * 1 + 0 * 1 * down e)
-    (some (m * up e) (down e) (down-pos e) (ltb-false (m * up e * 4096) (1 * 1 * down e) (right (lt-ltb 0 (m * up e * 4096 + 1 * 1 * down e) (more (m * up e) (down e) (down-pos e))) t)))
-  where
-    right : {b c : Bool} → b ≡ true → (b && c) ≡ false → c ≡ false
-    right {b} {c} e f = subst (λ (z : Bool). (z && c) ≡ false) e f
-
-    more : (a d : ℕ) → 0 < d → 0 < a * 4096 + 1 * 1 * d
-    more a d h = omega arith
-
-    some : (a d : ℕ) → 0 < d → 1 * 1 * d ≤ a * 4096 → 0 < a * 1 + 0 * 1 * d
-    some a d h k = omega arith
-
-pub size-of : (s : Bool) (m : ℕ) (e : ℤ) → m * up e ≤ 26 * down e → tinyOf (fin s m e) ≡ false → sizeOf (fin s m e) ≡ fin false m e
-unfolding sizeOf neg
-size-of s m e l t =
-    let i = tests m e s l in
-    ap (λ (b : Bool). cond (b && le (fin s m e) most) (cond (lt (fin s m e) (ofBits binary32 0)) (neg (fin s m e)) (fin s m e)) Rule.zero) (i .0)
-    ∙ ap (λ (b : Bool). cond b (cond (lt (fin s m e) (ofBits binary32 0)) (neg (fin s m e)) (fin s m e)) Rule.zero) (i .1)
-    ∙ ap (λ (b : Bool). cond b (neg (fin s m e)) (fin s m e)) (sign-of s m e t)
-    ∙ go s
-  where
-    go : (s : Bool) → cond s (fin (not s) m e) (fin s m e) ≡ fin false m e
-    go false = refl
-    go true = refl
 
 -- ---- a right angle in two parts
 unfoldable gh : ℕ

@@ -1,14 +1,13 @@
 -- No step of the rule up to the quarters is a NaN, whatever the angle. Assumes nothing.
+use mathlib.Core.Path.{sym, subst}
 use mathlib.Core.Bool.{Bool, true, false, not, cond, _&&_}
 use Prim.Native.Nat.{ℕ, zero, suc, _+_, _-_, _*_, _^_}
 use lib.Dec.{T, ltb}
 use lib.IntN.{ℤ, pos, negsuc}
-use lib.Ieee.{Float, nan, inf, fin, Format, binary32, binary64, prec, emax, low, unlike, up, down, odd, units, round, sum, add, mul, neg, le, lt, eq, fits, isNan, ofBits}
-use lib.Ieee.Fits.{and-i, cond-fits, neg-fits, fits-widens}
-use lib.Ieee.Bits.{ofBits-fits}
-use lib.Ieee.Scale.{finite}
-use Rattle.angle.specs.Sine as Rule
-use Rattle.angle.specs.Sine.{least, most, perRadian, sizeOf, countedOf}
+use lib.Ieee.{Float, nan, inf, fin, Format, binary32, binary64, prec, emax, low, unlike, up, down, odd, units, round, sum, add, mul, fits, isNan, ofBits}
+use lib.Ieee.Fits.{and-i, fits-widens}
+use Rattle.angle.specs.Sine.{perRadian, sizeOf, countedOf}
+use Rattle.angle.proofs.sine.Held.{size-held}
 
 abbrev Number : Float → Type 0
 Number x = T (not (isNan x))
@@ -47,38 +46,16 @@ mul-number : (f : Format) (s : Bool) (m : ℕ) (e : ℤ) (t : Bool) (n : ℕ) (d
 unfolding mul
 mul-number f s m e t n d = round-number f (unlike s t) (m * up e * (n * up d)) (down e * down d)
 
-counted-number : (x : Float) → T (finite x) → Number (countedOf x)
+counted-number : (s : Bool) (m : ℕ) (e : ℤ) → Number (countedOf (fin s m e))
 unfolding countedOf ofBits
-counted-number nan h = absurd h
-counted-number (inf s) h = absurd h
-counted-number (fin s m e) h = add-number binary64 (mul binary64 (fin s m e) perRadian) false 3 (pos 51) (mul-number binary64 s m e false 0x145F306DC9C883 (negsuc 52))
+counted-number s m e = add-number binary64 (mul binary64 (fin s m e) perRadian) false 3 (pos 51) (mul-number binary64 s m e false 0x145F306DC9C883 (negsuc 52))
 
-size-finite : (t : Float) → T (finite (sizeOf t))
-unfolding sizeOf le lt eq ofBits neg
-size-finite nan = tt
-size-finite (inf true) = tt
-size-finite (inf false) = tt
-size-finite (fin s m e) = go (le least (fin s m e) && le (fin s m e) most) (lt (fin s m e) (ofBits binary32 0))
-  where
-    go : (a b : Bool) → T (finite (cond a (cond b (fin (not s) m e) (fin s m e)) Rule.zero))
-    go true true = tt
-    go true false = tt
-    go false b = tt
-
-pub size-counted : (t : Float) → T (not (isNan (countedOf (sizeOf t))))
-size-counted t = counted-number (sizeOf t) (size-finite t)
+pub size-counted : (t : Float) → T (fits binary32 t) → T (not (isNan (countedOf (sizeOf t))))
+size-counted t f = let h = size-held t f in subst (λ (x : Float). Number (countedOf x)) (sym (h .is)) (counted-number false (h .m) (h .e))
 
 -- and the size is an f64
-pub size-held : (t : Float) → T (fits binary32 t) → T (fits binary64 (sizeOf t) && not (isNan (sizeOf t)))
-unfolding sizeOf isNan
-size-held t f =
-    and-i (fits binary64 (sizeOf t)) (not (isNan (sizeOf t)))
-    (cond-fits binary64 (le least t && le t most) (cond (lt t (ofBits binary32 0)) (neg t) t) Rule.zero
-    (cond-fits binary64 (lt t (ofBits binary32 0)) (neg t) t (neg-fits binary64 t (fits-widens t f)) (fits-widens t f))
-    (ofBits-fits binary64 0))
-    (plain (sizeOf t) (size-finite t))
-  where
-    plain : (x : Float) → T (finite x) → T (not (isNan x))
-    plain nan h = absurd h
-    plain (inf s) h = tt
-    plain (fin s m e) h = tt
+pub size-double : (t : Float) → T (fits binary32 t) → T (fits binary64 (sizeOf t) && not (isNan (sizeOf t)))
+unfolding isNan
+size-double t f =
+    let h = size-held t f in
+    subst (λ (x : Float). T (fits binary64 x && not (isNan x))) (sym (h .is)) (and-i (fits binary64 (fin false (h .m) (h .e))) true (fits-widens (fin false (h .m) (h .e)) (h .fit)) tt)

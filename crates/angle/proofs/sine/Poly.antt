@@ -2,7 +2,7 @@
 -- Assumes nothing.
 use mathlib.Core.Path.{_≡_, sym, ap, subst}
 use Prim.Native.Nat.{ℕ, _+_, _-_, _*_, _≤_, _<_}
-use native.Mathlib.Nat.{le-trans, mul-comm, mul-le-mul, mul-le-mul-right, le-of-mul-le-mul-right}
+use native.Mathlib.Nat.{le-trans, mul-comm, mul-le-mul, mul-le-mul-left, mul-le-mul-right, le-of-mul-le-mul-right}
 use native.Mathlib.Omega.{arith}
 use lib.Dec.{T, lit≤}
 use lib.Ieee.{Float, binary64, mul, add, sub, fits}
@@ -190,6 +190,7 @@ module _ (y : ℕ) (half : 2 * y < H) (r : Float) (a : ℕ) (fr : T (fits binary
     pub is : Val (sineFrom r Z) p
     pub fits' : T (fits binary64 (sineFrom r Z))
     pub near : Near (p * W * 1000000000) (sinAt y * E * 1000000000) (661 * (E * W))
+    pub low : 5 * a ≤ 6 * p + 18 * tiny
 
   by-W : {p q e : ℕ} → Near p q e → Near (p * W) (q * W) (e * W)
   by-W n = record { hi = omega (arith, mul-le-mul-right W (n .hi)); lo = omega (arith, mul-le-mul-right W (n .lo)) }
@@ -210,8 +211,19 @@ module _ (y : ℕ) (half : 2 * y < H) (r : Float) (a : ℕ) (fr : T (fits binary
             (gap (one 3 y) g1 6 703378 80746974000 57 W l-s1 (P.t3 y half) (lit≤ tt)) (gap (one 5 y) g2 120 138622464 2490478920 346 W l-s2 (P.t5 y half) (lit≤ tt))
             (gap (one 7 y) g3 5040 16328131339 36578020 598 W l-s3 (P.t7 y half) (lit≤ tt))
             (last (s .rest) (one 9 y) (s .few) (P.t9 y half)) (whole-tiny E-tiny);
+        low = least (m1 .p) (m2 .p) (d1 .near .lo) (F .near .lo) m1-few;
       }
     where
+      -- the sine's second term is a sixth of a at most
+      m1-few : 6 * m1 .p ≤ a + 6 * tiny
+      m1-few = le-of-mul-le-mul-right {k = E} (go E (x3 .p) g1 (m1 .near .hi) x3a (l-s1 .0)) E-pos
+        where
+          go : (e x g : ℕ) → m1 .p * e ≤ x * g + tiny * e → x ≤ a → 6 * g ≤ e → 6 * m1 .p * e ≤ (a + 6 * tiny) * e
+          go e x g n h k = omega (arith, mul-le-mul-right e h, mul-le-mul-left x k)
+
+      least : (m n : ℕ) → a ≤ d1 .p + m + tiny → d1 .p + n ≤ F .p + tiny → 6 * m ≤ a + 6 * tiny → 5 * a ≤ 6 * F .p + 18 * tiny
+      least m n h k l = omega arith
+
       near1 : Near (F .p * W) ((d1 .p + m2 .p) * W) (tiny * W) → Near (F .p * W) (d1 .p * W + m2 .p * W) (tiny * W)
       near1 n = record { hi = omega (arith, n .hi); lo = omega (arith, n .lo) }
 
@@ -393,6 +405,7 @@ module _ (y : ℕ) (half : 2 * y < H) (r : Float) (a : ℕ) (fr : T (fits binary
     pub is : Val (cosineFrom Z) p
     pub fits' : T (fits binary64 (cosineFrom Z))
     pub near : Near (p * W * 1000000000) (cosAt y * E * 1000000000) (150 * (E * W))
+    pub low : E ≤ 4 * p
 
   pub cosined : Cosined
   unfolding cosineFrom cosineOn
@@ -410,8 +423,13 @@ module _ (y : ℕ) (half : 2 * y < H) (r : Float) (a : ℕ) (fr : T (fits binary
             (gap (one 2 y) h1 2 5498 308430000000 2 W l-c1 (P.t2 y half) (lit≤ tt)) (gap (one 4 y) h2 24 1040216 15854844150 17 W l-c2 (P.t4 y half) (lit≤ tt))
             (gap (one 6 y) h3 720 153006805 326007306 50 W l-c3 (P.t6 y half) (lit≤ tt)) (gap (one 8 y) h4 40320 16577027633 3591087 60 W l-c4 (P.t8 y half) (lit≤ tt))
             (last (s .rest) (one 10 y) (s .few) (P.t10 y half)) (whole-tiny E-tiny);
+        low = least (G .near .lo) (e2 .near .lo) (e1 .near .lo) q1-few h1E e-few q3-few (l-c3 .0) E-tiny;
       }
     where
+      least : e2 .p ≤ G .p + q3 .p + tiny → e1 .p + q2 .p ≤ e2 .p + tiny → E ≤ e1 .p + q1 .p + tiny → q1 .p ≤ h1 + tiny → 2 * h1 ≤ E → e .p ≤ h3 + tiny → q3 .p ≤ e .p + tiny → 720 * h3 ≤ E
+          → E ≡ 0x1_0000_0000_0000 * tiny → E ≤ 4 * G .p
+      least a0 a1 a2 a3 a4 a5 a6 a7 a8 = omega arith
+
       near1 : Near ((G .p + q3 .p) * W) (e2 .p * W) (tiny * W) → Near (G .p * W + q3 .p * W) (e2 .p * W) (tiny * W)
       near1 n = record { hi = omega (arith, n .hi); lo = omega (arith, n .lo) }
 

@@ -1,18 +1,16 @@
 -- An angle's size in D-ths; from a half on it is a whole number of 2 ^ -24ths. Assumes nothing.
 use mathlib.Core.Path.{_≡_, refl, sym, ap, _∙_, subst}
 use mathlib.Core.Logic.{_⊎_, inl, inr}
-use mathlib.Core.Bool.{Bool, true, false, not, _&&_, _||_}
+use mathlib.Core.Bool.{Bool}
 use Prim.Native.Nat.{ℕ, _+_, _-_, _*_, _/_, _^_, _≤_, _<_}
 use native.Mathlib.Nat.{mul-le-mul-right, mul-lt-mul-of-pos-right, lt-of-mul-lt-mul-right, div-le-of-le-mul, div-lt-iff-lt-mul, lt-div-mul-add, mul-div-cancel}
 use native.Mathlib.Omega.{arith}
-use lib.Dec.{T, nltb→le, lit<, ltb, eqb}
+use lib.Dec.{T, lit<}
 use lib.IntN.{ℤ, natAbs}
-use lib.Ieee.{fin, binary32, up, down, fits, le, lt, eq}
+use lib.Ieee.{fin, binary32, up, down, fits}
 use lib.Ieee.Fits.{down-pos}
 use Rattle.floats.proofs.Powers.{on-grid, shallow}
-use Rattle.floats.proofs.Range.{le-no, le-no'}
 use Rattle.angle.specs.Meaning.{D, parts}
-use Rattle.angle.specs.Sine.{least, most}
 use Rattle.angle.proofs.Signs.{size}
 
 -- a 2 ^ -46th, in D-ths
@@ -59,45 +57,6 @@ which s m e f l = go (on-grid 24 1 s m e refl f)
     go : Grid (m * up e) (down e) → ((c : ℕ) × (m * up e * D / down e ≡ c * 2 ^ 22 * step)) ⊎ (m * up e * D / down e < 2 ^ 45 * step)
     go (inl (c, g)) = inl (c, exactly (m * up e) (down e) (down-pos e) l c g)
     go (inr h) = inr (under (m * up e) (down e) (down-pos e) l h)
-
--- ---- the two tests of the range
-is-yes : (b : Bool) → (T (not b) → ⊥) → b ≡ true
-is-yes true h = refl
-is-yes false h = absurd (h tt)
-
-or-left : (b c : Bool) → T (not (b || c)) → T (not b)
-or-left true c t = t
-or-left false c t = tt
-
-some : (a d : ℕ) → 0 < d → 26 * d + a * 1 ≤ 0 → ⊥
-some a d p h = omega arith
-
-swap : (a b : ℕ) → a + b ≤ 0 → b + a ≤ 0
-swap a b h = omega arith
-
-module _ (m : ℕ) (e : ℤ) where
-  pub tests : (s : Bool) → m * up e ≤ 26 * down e → (le least (fin s m e) ≡ true) × (le (fin s m e) most ≡ true)
-  unfolding le lt eq
-  tests false l =
-      let p = down-pos e in (
-        is-yes (le least (fin false m e))
-            (λ (t : T (not (le least (fin false m e)))). some (m * up e) (down e) p
-            (nltb→le 0 (26 * down e + m * up e * 1) (or-left (ltb 0 (26 * down e + m * up e * 1)) (eqb (26 * down e) (m * up e * 1) && eqb (26 * down e) 0) t))),
-        is-yes (le (fin false m e) most) (λ (t : T (not (le (fin false m e) most))). go (m * up e) (down e) l (le-no (m * up e * 1) (26 * down e) t)),
-      )
-    where
-      go : (a d : ℕ) → a ≤ 26 * d → 26 * d < a * 1 → ⊥
-      go a d l h = omega arith
-  tests true l =
-      let p = down-pos e in (
-        is-yes (le least (fin true m e)) (λ (t : T (not (le least (fin true m e)))). go (m * up e) (down e) l (le-no' (26 * down e) (m * up e * 1) t)),
-        is-yes (le (fin true m e) most)
-            (λ (t : T (not (le (fin true m e) most))). some (m * up e) (down e) p
-            (swap (m * up e * 1) (26 * down e) (nltb→le 0 (m * up e * 1 + 26 * down e) (or-left (ltb 0 (m * up e * 1 + 26 * down e)) (eqb (m * up e * 1) (26 * down e) && eqb (m * up e * 1) 0) t)))),
-      )
-    where
-      go : (a d : ℕ) → a ≤ 26 * d → 26 * d < a * 1 → ⊥
-      go a d l h = omega arith
 
 pub inside : (s : Bool) (m : ℕ) (e : ℤ) → T (fits binary32 (fin s m e)) → m * up e * D / down e ≤ 26 * D → m * up e ≤ 26 * down e
 inside s m e f h = few-parts (m * up e) (down e) (down-pos e) (unfold D in shallow binary32 s m e f) h

@@ -1,33 +1,29 @@
 -- The rule's sine and cosine of an angle up to 26 lie within 2 ^ -20 of what is meant: the polynomials are near the terms, the
 -- f32 is near the polynomials, and both are placed alike. Assumes nothing.
 use mathlib.Core.Path.{_≡_, refl, sym, ap, _∙_, subst}
-use mathlib.Core.Bool.{Bool, true, false, not, cond, _&&_}
+use mathlib.Core.Bool.{Bool, true, false, not, cond}
 use Prim.Native.Nat.{ℕ, zero, suc, _+_, _-_, _*_, _/_, _%_, _^_, _≤_, _<_}
-use native.Mathlib.Nat.{lt-of-mul-lt-mul-right, le-trans, mul-comm, mul-le-mul, mul-le-mul-left, mul-le-mul-right, mul-pos, le-of-mul-le-mul-right}
+use native.Mathlib.Nat.{le-of-lt, le-trans, mul-comm, mul-le-mul, mul-le-mul-left, mul-le-mul-right, le-of-mul-le-mul-right}
 use native.Mathlib.Omega.{arith}
-use lib.Dec.{T, ltb, lit≤, lit<}
+use lib.Dec.{T, lit≤, lit<}
 use lib.IntN.{ℤ, pos, negsuc, negℤ, natAbs, _-ℤ_, _*ℤ_, negℤ-negℤ, negℤ-+ℤ}
-use lib.Ieee.{Float, nan, inf, fin, binary32, binary64, up, down, neg, lt, fits, mul, sub, ofBits, toBits}
+use lib.Ieee.{Float, nan, inf, fin, binary32, binary64, up, down, neg, lt, le, eq, fits, add, sub, mul, round, ofBits, toBits}
 use lib.Ieee.Fits.{down-pos}
 use lib.Ieee.Scale.{finite}
-use borrow.Author.Tests.{lt-ltb, ltb-true, ltb-false}
-use Rattle.floats.proofs.Powers.{shallow}
 use Rattle.angle.specs.Meaning.{D, H, whole, signed, parts, mod4, placed, sine, cosine, UpTo26, Close}
-use Rattle.angle.specs.Sine.{many, sizeOf, countedOf, restOf, sizedOf, tinyOf, sineFrom, cosineFrom, narrowOf, sineAt, cosineAt, sineOfSize, cosineOfSize, sineOf, cosineOf}
-use Rattle.angle.proofs.Signs as Signs
+use Rattle.angle.specs.Sine.{least, sizeOf, countedOf, offOf, restOf, sizedOf, tinyOf, sineFrom, sineOn, cosineFrom, cosineOn, narrowOf}
+use Rattle.angle.specs.Sine.{sineAt, cosineAt, sineOfSize, cosineOfSize, sineOf, cosineOf}
 use Rattle.angle.proofs.Signs.{opposite, product, apart, mod4-minus}
 use Rattle.angle.proofs.Terms.{one, sum, one-next, under, sinAt, cosAt}
-use Rattle.angle.proofs.Placing.{Beside, H-pos, sine-is, cosine-is}
+use Rattle.angle.proofs.Placing.{Beside, sine-is, cosine-is}
 use Rattle.angle.proofs.Rounded.{Is, is}
-use Rattle.angle.proofs.sine.Units.{step, size-is, inside, which}
-use Rattle.angle.proofs.sine.Turns.{Turned, turned-of}
-use Rattle.angle.proofs.sine.Rest.{Found, found}
-use Rattle.angle.proofs.sine.Doubles.{Near, E, E-pos, tiny, Val}
-use Rattle.angle.proofs.sine.Powers.{D-pos, Q-pos, first, none, yD, cut}
+use Rattle.angle.proofs.sine.Units.{size-is, inside}
+use Rattle.angle.proofs.sine.Doubles.{Near, E}
+use Rattle.angle.proofs.sine.Powers.{D-pos, Q-pos, first, none, cut}
 use Rattle.angle.proofs.sine.Coefficients.{lift, E-lift}
-use Rattle.angle.proofs.sine.Poly.{Sined, sined, Cosined, cosined}
 use Rattle.angle.proofs.sine.Narrowed.{Narrowed, narrowed, fine, E-fine}
-use Rattle.angle.proofs.sine.Left.{whole-parts, val-of, sign-of, size-of, Rest, rest-of, Aside}
+use Rattle.angle.proofs.sine.Held.{plain-fits, not-tiny, is-tiny, tiny-size, size-of, sign-of}
+use Rattle.angle.proofs.sine.Steps.{Answer, rOf, Steps, xOf, exactly, lift-pos, steps}
 
 -- ---- an answer that is near F is close to it
 close-at : (y : Float) (g F : ℕ) → Is y false g → g * whole * 2 ^ 20 ≤ F * D * 2 ^ 20 + D * whole → F * D * 2 ^ 20 ≤ g * whole * 2 ^ 20 + D * whole → Close y (pos F)
@@ -35,10 +31,6 @@ close-at y g F i a b = record {
   number = i .number;
   near = subst (λ (z : ℤ). natAbs (z *ℤ pos whole -ℤ pos F *ℤ pos D) * 2 ^ 20 ≤ D * whole) (sym (i .parts-are)) (apart false (g * whole) (F * D) (2 ^ 20) (D * whole) a b);
 }
-
-lift-pos : 0 < lift
-unfolding lift
-lift-pos = lit< tt
 
 close : (y : Float) (p F c : ℕ) → c ≤ 661 → Narrowed y p → Near (p * whole * 1000000000) (F * E * 1000000000) (c * (E * whole)) → Close y (pos F)
 close y p F c k m n =
@@ -101,48 +93,7 @@ by-quarter (suc zero) a b = b
 by-quarter (suc (suc zero)) a b = turned a
 by-quarter (suc (suc (suc r))) a b = turned b
 
--- ---- the angle: the test by the size
-tiny-at : (s : Bool) (m : ℕ) (e : ℤ) → tinyOf (fin s m e) ≡ ltb (m * up e * 4096) (1 * 1 * down e)
-unfolding tinyOf lt neg ofBits
-tiny-at false m e =
-    ap (λ (b : Bool). ltb (m * up e * 4096) (1 * 1 * down e) && b) (lt-ltb 0 (1 * 1 * down e + m * up e * 4096) (more (m * up e) (down e) (down-pos e))) ∙ both (ltb (m * up e * 4096) (1 * 1 * down e))
-  where
-    more : (a d : ℕ) → 0 < d → 0 < 1 * 1 * d + a * 4096
-    more a d h = omega arith
-
-    both : (b : Bool) → (b && true) ≡ b
-    both true = refl
-    both false = refl
-tiny-at true m e = ap (λ (b : Bool). b && ltb (m * up e * 4096) (1 * 1 * down e)) (lt-ltb 0 (m * up e * 4096 + 1 * 1 * down e) (more (m * up e) (down e) (down-pos e)))
-  where
-    more : (a d : ℕ) → 0 < d → 0 < a * 4096 + 1 * 1 * d
-    more a d h = omega arith
-
--- x is the angle's size in D-ths
-abbrev xOf : ℕ → ℤ → ℕ
-xOf m e = m * up e * D / down e
-
-exactly : (s : Bool) (m : ℕ) (e : ℤ) → T (fits binary32 (fin s m e)) → xOf m e * down e ≡ m * up e * D
-unfolding D
-exactly s m e f = whole-parts m e (shallow binary32 s m e f)
-
-tiny-size : (s : Bool) (m : ℕ) (e : ℤ) → T (fits binary32 (fin s m e)) → tinyOf (fin s m e) ≡ true → xOf m e * 4096 ≤ D
-tiny-size s m e f t = le-of-mul-le-mul-right {k = down e} (go (xOf m e) (m * up e) (down e) (exactly s m e f) (ltb-true (m * up e * 4096) (1 * 1 * down e) (sym (tiny-at s m e) ∙ t))) (down-pos e)
-  where
-    go : (x a d : ℕ) → x * d ≡ a * D → a * 4096 < 1 * 1 * d → x * 4096 * d ≤ D * d
-    go x a d i h = omega (arith, mul-le-mul-right D h)
-
-large-size : (s : Bool) (m : ℕ) (e : ℤ) → T (fits binary32 (fin s m e)) → tinyOf (fin s m e) ≡ false → D ≤ xOf m e * 4096
-large-size s m e f t = le-of-mul-le-mul-right {k = down e} (go (xOf m e) (m * up e) (down e) (exactly s m e f) (ltb-false (m * up e * 4096) (1 * 1 * down e) (sym (tiny-at s m e) ∙ t))) (down-pos e)
-  where
-    go : (x a d : ℕ) → x * d ≡ a * D → 1 * 1 * d ≤ a * 4096 → D * d ≤ x * 4096 * d
-    go x a d i h = omega (arith, mul-le-mul-right D h)
-
 -- ---- a tiny angle
-D-H : 3 * D ≤ 2 * H
-unfolding D H
-D-H = lit≤ tt
-
 half-few : D < H
 unfolding D H
 half-few = lit< tt
@@ -193,17 +144,6 @@ module _ (x : ℕ) (l : x * 4096 ≤ D) where
       down' : (S R T w : ℕ) → S + R ≡ T → T ≡ w → S * D * 2 ^ 20 ≤ D * w * 2 ^ 20 + D * w
       down' S R T w e f = omega (arith, ap (λ (z : ℕ). z * D) e, ap (λ (z : ℕ). z * D) f)
 
--- ---- any other angle
-whole-pos : 0 < whole
-unfolding whole
-whole-pos = lit< tt
-
-below-two : (p F c : ℕ) → F ≤ whole → c ≤ 661 → Near (p * whole * 1000000000) (F * E * 1000000000) (c * (E * whole)) → p < 2 * E
-below-two p F c h k n = lt-of-mul-lt-mul-right whole (go p F whole E (n .hi) (mul-le-mul-right E h) (mul-le-mul-right (E * whole) k) (mul-pos E-pos whole-pos))
-  where
-    go : (p F w e : ℕ) → p * w * 1000000000 ≤ F * e * 1000000000 + c * (e * w) → F * e ≤ w * e → c * (e * w) ≤ 661 * (e * w) → 0 < e * w → p * w < 2 * e * w
-    go p F w e a b c d = omega arith
-
 -- a minus goes through the placing: r is j mod 4
 side : Bool → Bool → Bool
 side s b = cond b (not s) s
@@ -234,125 +174,51 @@ even (suc (suc (suc (suc r)))) h b S C = absurd (no r h)
     no : (r : ℕ) → suc (suc (suc (suc r))) < 4 → ⊥
     no r h = omega arith
 
-tiny-step : step * lift ≡ 4 * tiny
-unfolding step lift tiny
-tiny-step = refl
-
+-- ---- an angle that is not tiny
 module _ (s : Bool) (m : ℕ) (e : ℤ) (f : T (fits binary32 (fin s m e))) (u : UpTo26 (fin s m e)) (big : tinyOf (fin s m e) ≡ false) where
   abbrev x : ℕ
   x = xOf m e
 
-  x-few : x ≤ 26 * D
-  x-few = subst (λ (z : ℕ). z ≤ 26 * D) (size-is s m e) (u .size)
-
   abbrev X : Float
   X = fin false m e
 
-  X-few : x * lift ≤ 26 * E
-  X-few = subst (λ (z : ℕ). x * lift ≤ 26 * z) (sym E-lift) (go x lift D x-few)
-    where
-      go : (x l d : ℕ) → x ≤ 26 * d → x * l ≤ 26 * (d * l)
-      go x l d h = omega (arith, mul-le-mul-right l h)
+  few : m * up e ≤ 26 * down e
+  few = inside s m e f (subst (λ (z : ℕ). z ≤ 26 * D) (size-is s m e) (u .size))
 
-  X-is : Val X (x * lift)
-  X-is = val-of m e (shallow binary32 s m e f)
+  over : 1 * 1 * down e < m * up e * 4096
+  over = not-tiny m e s big
 
-  turn : Turned X (x * lift)
-  turn = turned-of X (x * lift) X-is X-few
+  at : Steps X x
+  at = steps m e (plain-fits s m e f) few (le-of-lt over)
 
   abbrev j : ℕ
-  j = turn .j
+  j = at .j
 
-  at : Found x j
-  at = found x j x-few (large-size s m e f big) (less (turn .hi), more (turn .lo)) (which s m e f (inside s m e f x-few))
-    where
-      less : 2 * (j * (H * lift)) ≤ 2 * (x * lift) + H * lift + 8 * tiny → 2 * (j * H) ≤ 2 * x + H + 2 * step
-      less h = le-of-mul-le-mul-right {k = lift} (go H lift step tiny tiny-step h) lift-pos
-        where
-          go : (h l p t : ℕ) → p * l ≡ 4 * t → 2 * (j * (h * l)) ≤ 2 * (x * l) + h * l + 8 * t → 2 * (j * h) * l ≤ (2 * x + h + 2 * p) * l
-          go h l p t e k = omega arith
+  abbrev y : ℕ
+  y = at .at .y
 
-      more : 2 * (x * lift) ≤ 2 * (j * (H * lift)) + H * lift + 8 * tiny → 2 * x ≤ 2 * (j * H) + H + 2 * step
-      more h = le-of-mul-le-mul-right {k = lift} (go H lift step tiny tiny-step h) lift-pos
-        where
-          go : (h l p t : ℕ) → p * l ≡ 4 * t → 2 * (x * l) ≤ 2 * (j * (h * l)) + h * l + 8 * t → 2 * x * l ≤ (2 * (j * h) + h + 2 * p) * l
-          go h l p t e k = omega arith
-
-  y : ℕ
-  y = at .y
-
-  half : 2 * y < H
-  unfolding y
-  half = at .half
-
-  aside : (b : Bool) (y : ℕ) → Beside b x j y → Aside b (x * lift) (j * (H * lift)) (y * lift)
-  aside true y h = go x H lift h
-    where
-      go : (x h l : ℕ) → y + x ≡ j * h → y * l + x * l ≡ j * (h * l)
-      go x h l e = omega (arith, ap (λ (z : ℕ). z * l) e)
-  aside false y h = go x H lift h
-    where
-      go : (x h l : ℕ) → y + j * h ≡ x → y * l + j * (h * l) ≡ x * l
-      go x h l e = omega (arith, ap (λ (z : ℕ). z * l) e)
-
-  far : 5 * tiny < at .y * lift
-  far = go (at .y) lift step tiny tiny-step (mul-le-mul-right lift (at .far)) (unfold tiny in lit< tt)
-    where
-      go : (y l p t : ℕ) → p * l ≡ 4 * t → 8 * p * l ≤ y * l → 0 < t → 5 * t < y * l
-      go y l p t e h o = omega arith
-
-  few-j : j ≤ 20
-  few-j = tight (le-of-mul-le-mul-right {k = H} (go (at .b) (at .beside)) H-pos)
-    where
-      tight : j ≤ 18 → j ≤ 20
-      tight h = omega arith
-
-      go : (b : Bool) → Beside b x j (at .y) → j * H ≤ 18 * H
-      go true h = omega (arith, x-few, at .half, D-H)
-      go false h = omega (arith, x-few, D-H)
-
-  d : Float
-  d = restOf X
-
-  left : Rest d (at .b) (y * lift)
-  unfolding d y restOf
-  left = rest-of X (sub binary64 (countedOf X) many) (x * lift) j (at .y * lift) (at .b) X-is X-few (turn .is) few-j (aside (at .b) (at .y) (at .beside)) far
+  abbrev left : Bool
+  left = at .at .b
 
   abbrev r : Float
-  r = sizedOf d
-
-  S : Sined y half r (left .a) (left .fit) (left .is) (left .near)
-  S = sined y half r (left .a) (left .fit) (left .is) (left .near)
-
-  C : Cosined y half r (left .a) (left .fit) (left .is) (left .near)
-  C = cosined y half r (left .a) (left .fit) (left .is) (left .near)
-
-  y-few : y ≤ D
-  y-few = yD y half
-
-  sin-few : sinAt y ≤ whole
-  sin-few =
-      le-trans (under y y-few 9 1)
-      (le-of-mul-le-mul-right {k = D} (subst (λ (z : ℕ). z ≤ whole * D) (sym (first y)) (subst (λ (z : ℕ). y * whole ≤ z) (mul-comm D whole) (mul-le-mul-right whole y-few))) D-pos)
-
-  cos-few : cosAt y ≤ whole
-  cos-few = subst (λ (z : ℕ). cosAt y ≤ z) (none y) (under y y-few 9 0)
+  r = rOf X
 
   abbrev answer : Float
   answer = narrowOf (sineFrom r (mul binary64 r r))
 
+  near-to : (z : Float) (F c : ℕ) → c ≤ 661 → Answer z F c → Close (narrowOf z) (pos F)
+  near-to z F c k a = close (narrowOf z) (a .p) F c k (narrowed (a .p) (a .few) (a .low) z (a .is)) (a .near)
+
   sin-close : Close answer (pos (sinAt y))
-  sin-close = close answer (S .p) (sinAt y) 661 (lit≤ tt) (narrowed (S .p) (below-two (S .p) (sinAt y) 661 sin-few (lit≤ tt) (S .near)) (sineFrom r (mul binary64 r r)) (S .is)) (S .near)
+  sin-close = near-to (sineFrom r (mul binary64 r r)) (sinAt y) 661 (lit≤ tt) (at .sine)
 
-  cc : Close (cosineAt d) (pos (cosAt y))
+  cc : Close (cosineAt (restOf X)) (pos (cosAt y))
   unfolding cosineAt
-  cc =
-      close (narrowOf (cosineFrom (mul binary64 r r))) (C .p) (cosAt y) 150 (lit≤ tt)
-      (narrowed (C .p) (below-two (C .p) (cosAt y) 150 cos-few (lit≤ tt) (C .near)) (cosineFrom (mul binary64 r r)) (C .is)) (C .near)
+  cc = near-to (cosineFrom (mul binary64 r r)) (cosAt y) 150 (lit≤ tt) (at .cosine)
 
-  cs : Close (sineAt d) (signed (side false (at .b)) (sinAt y))
+  cs : Close (sineAt (restOf X)) (signed (side false left) (sinAt y))
   unfolding sineAt side
-  cs = subst (λ (g : Bool). Close (cond g (neg answer) answer) (signed (side false (at .b)) (sinAt y))) (sym (left .minus)) (go (at .b))
+  cs = subst (λ (g : Bool). Close (cond g (neg answer) answer) (signed (side false left) (sinAt y))) (sym (at .minus)) (go left)
     where
       go : (b : Bool) → Close (cond b (neg answer) answer) (signed (side false b) (sinAt y))
       go false = sin-close
@@ -360,45 +226,45 @@ module _ (s : Bool) (m : ℕ) (e : ℤ) (f : T (fits binary32 (fin s m e))) (u :
 
   -- the size's answers, and the sign
   abbrev σ : ℤ
-  σ = placed negℤ (j % 4) (signed (side false (at .b)) (sinAt y)) (pos (cosAt y))
+  σ = placed negℤ (j % 4) (signed (side false left) (sinAt y)) (pos (cosAt y))
 
   abbrev γ : ℤ
-  γ = placed negℤ ((j % 4 + 1) % 4) (signed (side false (at .b)) (sinAt y)) (pos (cosAt y))
+  γ = placed negℤ ((j % 4 + 1) % 4) (signed (side false left) (sinAt y)) (pos (cosAt y))
 
   size-sine : Close (sineOfSize X) σ
-  unfolding sineOfSize d
-  size-sine = subst (λ (k : ℕ). Close (sineOfSize X) (placed negℤ k (signed (side false (at .b)) (sinAt y)) (pos (cosAt y)))) (turn .bits) (by-quarter (toBits binary64 (countedOf X) % 4) cs cc)
+  unfolding sineOfSize
+  size-sine = subst (λ (k : ℕ). Close (sineOfSize X) (placed negℤ k (signed (side false left) (sinAt y)) (pos (cosAt y)))) (at .bits) (by-quarter (toBits binary64 (countedOf X) % 4) cs cc)
 
   size-cosine : Close (cosineOfSize X) γ
-  unfolding cosineOfSize d
+  unfolding cosineOfSize
   size-cosine =
-      subst (λ (k : ℕ). Close (cosineOfSize X) (placed negℤ ((k + 1) % 4) (signed (side false (at .b)) (sinAt y)) (pos (cosAt y)))) (turn .bits)
+      subst (λ (k : ℕ). Close (cosineOfSize X) (placed negℤ ((k + 1) % 4) (signed (side false left) (sinAt y)) (pos (cosAt y)))) (at .bits)
       (by-quarter ((toBits binary64 (countedOf X) % 4 + 1) % 4) cs cc)
 
   few-quarters : j % 4 < 4
   few-quarters = omega arith
 
   sine-at : (s : Bool) → sine (signed s x) ≡ cond s (negℤ σ) σ
-  unfolding y mod4 side
-  sine-at false = sine-is false (at .b) x j (at .y) (at .half) (at .beside)
+  unfolding mod4 side
+  sine-at false = sine-is false left x j y (at .at .half) (at .at .beside)
   sine-at true =
-      sine-is true (at .b) x j (at .y) (at .half) (at .beside)
-      ∙ ap (λ (k : ℕ). placed negℤ k (signed (side true (at .b)) (sinAt (at .y))) (pos (cosAt (at .y)))) (mod4-minus j)
-      ∙ odd (j % 4) few-quarters (at .b) (sinAt (at .y)) (cosAt (at .y))
+      sine-is true left x j y (at .at .half) (at .at .beside)
+      ∙ ap (λ (k : ℕ). placed negℤ k (signed (side true left) (sinAt y)) (pos (cosAt y))) (mod4-minus j)
+      ∙ odd (j % 4) few-quarters left (sinAt y) (cosAt y)
 
   cosine-at : (s : Bool) → cosine (signed s x) ≡ γ
-  unfolding y mod4 side
-  cosine-at false = cosine-is false (at .b) x j (at .y) (at .half) (at .beside)
+  unfolding mod4 side
+  cosine-at false = cosine-is false left x j y (at .at .half) (at .at .beside)
   cosine-at true =
-      cosine-is true (at .b) x j (at .y) (at .half) (at .beside)
-      ∙ ap (λ (k : ℕ). placed negℤ ((k + 1) % 4) (signed (side true (at .b)) (sinAt (at .y))) (pos (cosAt (at .y)))) (mod4-minus j)
-      ∙ even (j % 4) few-quarters (at .b) (sinAt (at .y)) (cosAt (at .y))
+      cosine-is true left x j y (at .at .half) (at .at .beside)
+      ∙ ap (λ (k : ℕ). placed negℤ ((k + 1) % 4) (signed (side true left) (sinAt y)) (pos (cosAt y))) (mod4-minus j)
+      ∙ even (j % 4) few-quarters left (sinAt y) (cosAt y)
 
   abbrev t : Float
   t = fin s m e
 
   sized : sizeOf t ≡ X
-  sized = size-of s m e (inside s m e f x-few) big
+  sized = size-of m e s few over
 
   by-sign : (s : Bool) → Close (cond s (neg (sineOfSize X)) (sineOfSize X)) (cond s (negℤ σ) σ)
   by-sign false = size-sine
@@ -408,18 +274,19 @@ module _ (s : Bool) (m : ℕ) (e : ℤ) (f : T (fits binary32 (fin s m e))) (u :
   unfolding sineOf parts
   large-sine =
       subst (λ (b : Bool). Close (cond b t (cond (lt t (ofBits binary32 0)) (neg (sineOfSize (sizeOf t))) (sineOfSize (sizeOf t)))) (sine (signed s x))) (sym big)
-      (subst (λ (b : Bool). Close (cond b (neg (sineOfSize (sizeOf t))) (sineOfSize (sizeOf t))) (sine (signed s x))) (sym (sign-of s m e big))
+      (subst (λ (b : Bool). Close (cond b (neg (sineOfSize (sizeOf t))) (sineOfSize (sizeOf t))) (sine (signed s x))) (sym (sign-of m e s over))
       (subst (λ (z : Float). Close (cond s (neg (sineOfSize z)) (sineOfSize z)) (sine (signed s x))) (sym sized)
       (subst (λ (z : ℤ). Close (cond s (neg (sineOfSize X)) (sineOfSize X)) z) (sym (sine-at s)) (by-sign s))))
 
   large-cosine : Close (cosineOf t) (cosine (parts t))
   unfolding cosineOf parts
-  large-cosine =
-      subst (λ (b : Bool). Close (cond b (ofBits binary32 0x3F80_0000) (cosineOfSize (sizeOf t))) (cosine (signed s x))) (sym big)
-      (subst (λ (z : Float). Close (cosineOfSize z) (cosine (signed s x))) (sym sized)
-      (subst (λ (z : ℤ). Close (cosineOfSize X) z) (sym (cosine-at s)) size-cosine))
+  large-cosine = subst (λ (z : Float). Close (cosineOfSize z) (cosine (signed s x))) (sym sized) (subst (λ (z : ℤ). Close (cosineOfSize X) z) (sym (cosine-at s)) size-cosine)
 
 -- ---- a tiny angle's answers
+cosine-least : cosineOfSize least ≡ ofBits binary32 0x3F80_0000
+unfolding cosineOfSize countedOf le lt eq add round toBits restOf sineAt cosineAt sineFrom cosineFrom offOf sizedOf sineOn cosineOn narrowOf placed mul sub neg ofBits
+cosine-least = refl
+
 zero-turn : (s : Bool) → mod4 (signed s 0) ≡ 0
 unfolding mod4
 zero-turn true = refl
@@ -430,7 +297,10 @@ module _ (s : Bool) (m : ℕ) (e : ℤ) (f : T (fits binary32 (fin s m e))) (sma
   x' = xOf m e
 
   l : x' * 4096 ≤ D
-  l = tiny-size s m e f small
+  l = le-of-mul-le-mul-right {k = down e} (go x' (m * up e) (down e) (exactly s m e f) (is-tiny m e s small)) (down-pos e)
+    where
+      go : (x a d : ℕ) → x * d ≡ a * D → a * 4096 ≤ 1 * 1 * d → x * 4096 * d ≤ D * d
+      go x a d i h = omega (arith, mul-le-mul-right D h)
 
   itself : Is (fin false m e) false x'
   unfolding parts
@@ -459,7 +329,7 @@ module _ (s : Bool) (m : ℕ) (e : ℤ) (f : T (fits binary32 (fin s m e))) (sma
   small-cosine : Close (cosineOf (fin s m e)) (cosine (parts (fin s m e)))
   unfolding cosineOf parts placed
   small-cosine =
-      subst (λ (b : Bool). Close (cond b (ofBits binary32 0x3F80_0000) (cosineOfSize (sizeOf (fin s m e)))) (cosine (signed s x'))) (sym small)
+      subst (λ (z : Float). Close z (cosine (signed s x'))) (sym (ap cosineOfSize (tiny-size m e s (is-tiny m e s small)) ∙ cosine-least))
       (subst (λ (z : ℤ). Close (ofBits binary32 0x3F80_0000) z) (sym (cosine-is s false x' 0 x' (tiny-half x' l) beside))
       (subst (λ (k : ℕ). Close (ofBits binary32 0x3F80_0000) (placed negℤ ((k + 1) % 4) (signed s (sinAt x')) (pos (cosAt x')))) (sym (zero-turn s))
       (tiny-cosine x' l (ofBits binary32 0x3F80_0000) one-is)))

@@ -1,6 +1,10 @@
 -- The line ends with the first line of what is held.
+use mathlib.Core.Path.{_≡_}
+use Prim.Native.Nat.{_≤_}
 use native.Mathlib.Omega.{arith}
-use Rattle.dialogue.proofs.Laws.{line-at}
+use lib.ListN.{length}
+use Rattle.dialogue.specs.Line.{start}
+use Rattle.dialogue.proofs.Laws.{line-at, ends}
 use borrow.Author.Needs.{needs}
 use Rattle.dialogue.proofs.found.Statement.{statement}
 use Rattle.dialogue.proofs.found.Tie as tie
@@ -43,13 +47,12 @@ returns c =
     let at = c .before .before .before .least3 in
     let used = c .least4 in
     let f = c .before .first-line in
-    let line = line-at (a .text .now) (at .result) (held .result) (f .result) (omega (arith, at .ensures)) (omega (arith, held .ensures)) (f .ensures .0) in (
-      omega arith,
-      (
-        omega (arith, at .ensures, f .ensures .1),
-        (omega (arith, held .ensures), (omega (arith, used .ensures), (line, omega (arith, end .ensures, at .ensures)))),
-      ),
-    )
+    let order : at .result ≤ held .result = omega (arith, at .ensures) in
+    let fits : held .result ≤ length (a .text .now) = omega (arith, held .ensures) in
+    let from : at .result ≡ start (a .last) (a .text .now) = omega (arith, held .ensures, end .ensures, at .ensures) in
+    let line = line-at (a .text .now) (at .result) (held .result) (f .result) order fits (f .ensures .0) in
+    let to = ends (a .last) (a .text .now) (at .result) (held .result) (f .result) order fits (held .ensures) from (f .ensures .0) in
+    (omega arith, (omega (arith, at .ensures, f .ensures .1), (fits, (omega (arith, used .ensures), (line, (held .ensures, (from, to)))))))
 
 pub found-spec : {M : Type 1} → statement M
 found-spec =

@@ -92,7 +92,7 @@ returns-3 : tie.Need-returns-3 Inv-loop μ-loop
 returns-3 c =
     let loop = c .before .before .loop in
     let f = c .stop .ensures in
-    stood (c .stop .result) (loop .text) 0 (omega arith) (f .0) (omega (arith, f .1 .0)) (omega (arith, f .1 .1 .0)) (f .1 .1 .1) (omega (arith, f .1 .0))
+    stood (c .stop .result) (loop .text) 0 (omega arith) (f .0) (omega (arith, f .1 .0)) (omega (arith, f .1 .1 .0)) (f .1 .1 .1 .0) (omega (arith, f .1 .0))
 
 pub wait-spec : {M : Type 1} → statement M
 wait-spec =

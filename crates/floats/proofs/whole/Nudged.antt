@@ -4,7 +4,8 @@ use mathlib.Core.Path.{_≡_, refl, sym, ap, _∙_, subst}
 use mathlib.Core.Logic.{_⊎_, inl, inr}
 use mathlib.Core.Bool.{Bool, false}
 use Prim.Native.Nat.{ℕ, zero, suc, _+_, _-_, _*_, _/_, _^_, _≤_, _<_}
-use native.Mathlib.Nat.{le-trans, lt-irrefl, eq-of-mul-eq-mul-right, pow-suc, mul-comm, mul-pos, mul-one, mul-le-mul-left, mul-le-mul-right, mul-lt-mul-of-pos-right, lt-of-lt-of-le, lt-of-mul-lt-mul-right, le-div-iff-mul-le, lt-div-mul-add, div-mul-le-self}
+use native.Mathlib.Nat.{le-trans, lt-irrefl, eq-of-mul-eq-mul-right, pow-suc, mul-comm, mul-pos, mul-one, mul-le-mul-left}
+use native.Mathlib.Nat.{mul-le-mul-right, mul-lt-mul-of-pos-right, lt-of-lt-of-le, lt-of-mul-lt-mul-right, le-div-iff-mul-le, lt-div-mul-add, div-mul-le-self}
 use native.Mathlib.Omega.{arith}
 use lib.Dec.{T, lit≤, lit<}
 use lib.Pow.{pow-add, pow-pos}
@@ -200,7 +201,9 @@ module _ (s : Bool) (a d : ℕ) (dp : 0 < d) (deep : d ≤ 2 ^ 149) (l : a < 2 ^
   made g v m n = record { g = g; is = v; lo = low-side a d dp g (2 ^ 1074) U-pos m n a refl; hi = high-side a d dp g (2 ^ 1074) U-pos m n z }
 
   some : 0 < a → Nudge (round binary64 s num den) s a d
-  some h = made G (grid-val s num den (lt-of-lt-of-le (under (2 ^ 1074) U-pos nears) (lit≤ tt))) (λ (t : 0 < a). farther (a * 2 ^ 1074) (G * d) (mul-pos h U-pos) (turn-lo (2 ^ 1074) (grid-lo num den den-pos normal))) nears
+  some h =
+      made G (grid-val s num den (lt-of-lt-of-le (under (2 ^ 1074) U-pos nears) (lit≤ tt)))
+      (λ (t : 0 < a). farther (a * 2 ^ 1074) (G * d) (mul-pos h U-pos) (turn-lo (2 ^ 1074) (grid-lo num den den-pos normal))) nears
     where
       G : ℕ
       G = grid binary64 num den

@@ -41,7 +41,8 @@ module _ (ps qs : List ℕ) where
     pub spotting-room : {j : ℕ} {w w₀ : Work} → w₀ .tally .landed + m < 18446744073709551616 → j < m → Spotting v xs ys f m j w w₀ → w .tally .landed + 1 < 18446744073709551616
     spotting-room {j} l h k = omega (arith, k .rest .few, spots-length j (m - j), spots-length 0 m)
 
-    pub spotting-turn : {j : ℕ} {w w′ w₀ : Work} → j < m → w′ ≡ dabbed v xs ys f (at (lowered (getD ps j 0)) (lowered (getD qs j 0))) w → Spotting v xs ys f m j w w₀ → Spotting v xs ys f m (j + 1) w′ w₀
+    pub spotting-turn : {j : ℕ} {w w′ w₀ : Work} → j < m → w′ ≡ dabbed v xs ys f (at (lowered (getD ps j 0)) (lowered (getD qs j 0))) w
+        → Spotting v xs ys f m j w w₀ → Spotting v xs ys f m (j + 1) w′ w₀
     unfolding spotsAt
     spotting-turn {j} {w} {w′} {w₀} h d k =
         let n : m - j ≡ suc (m - suc j) = omega arith in

@@ -47,26 +47,26 @@ returns : tie.Need-returns Inv-loop μ-loop
 returns c = search needs
 
 sub-reply : tie.Need-sub-reply Inv-loop μ-loop
-sub-reply c = c .before .before .before .before .next .ensures .first
+sub-reply c = c .before .before .before .before .next .ensures .0 .first
 
 part-reply-start : tie.Need-part-reply-start Inv-loop μ-loop
 part-reply-start c =
     let next = c .before .before .before .before .before .next in
-    omega (arith, next .ensures .first, next .ensures .last, next .ensures .within)
+    omega (arith, next .ensures .0 .first, next .ensures .0 .last, next .ensures .0 .within)
 
 part-reply-end : tie.Need-part-reply-end Inv-loop μ-loop
 part-reply-end c =
     let next = c .before .before .before .before .before .next in
-    omega (arith, next .ensures .first, next .ensures .last, next .ensures .within)
+    omega (arith, next .ensures .0 .first, next .ensures .0 .last, next .ensures .0 .within)
 
 sub-reply-2 : tie.Need-sub-reply-2 Inv-loop μ-loop
-sub-reply-2 c = omega (arith, c .before .before .before .before .before .before .before .before .before .next .ensures .room)
+sub-reply-2 c = omega (arith, c .before .before .before .before .before .before .before .before .before .next .ensures .0 .room)
 
 part-reply-start-2 : tie.Need-part-reply-start-2 Inv-loop μ-loop
-part-reply-start-2 c = omega (arith, c .before .before .before .before .before .before .before .before .before .next .ensures .room)
+part-reply-start-2 c = omega (arith, c .before .before .before .before .before .before .before .before .before .next .ensures .0 .room)
 
 part-reply-end-2 : tie.Need-part-reply-end-2 Inv-loop μ-loop
-part-reply-end-2 c = omega (arith, c .before .before .before .before .before .before .before .before .before .next .ensures .room)
+part-reply-end-2 c = omega (arith, c .before .before .before .before .before .before .before .before .before .next .ensures .0 .room)
 
 reply-requires : tie.Need-reply-requires Inv-loop μ-loop
 reply-requires c κs = search needs
@@ -78,7 +78,7 @@ add-t21 c =
     let s = next .next in
     let g = next .before .before .before .before .before .before .before .before .before .before .good in
     let r = c .before .before .before .before .before .before .before .before .reply in
-    let w = within (l .out) (r .last .1 .1 .1 .1 .0) (s .result .used) (r .result) (s .ensures .room) (replied-within _ _ _ _ _ (r .ensures)) in
+    let w = within (l .out) (r .last .1 .1 .1 .1 .0) (s .result .used) (r .result) (s .ensures .0 .room) (replied-within _ _ _ _ _ (r .ensures)) in
     record { fits = omega (arith, w, l .inv .4, g .1 .1 .1 .1 .0 .0) }
 
 sub-left : tie.Need-sub-left Inv-loop μ-loop

@@ -1,33 +1,31 @@
--- `size_of` meets its contract: the cases of the code are those of the rule. Assumes nothing.
-use mathlib.Core.Path.{_≡_, refl}
-use mathlib.Core.Bool.{Bool, true, false, cond, _&&_}
-use lib.Ieee.{Float, binary32, ofBits, neg, le, lt}
-use Rattle.angle.specs.Sine.{least, most, zero, sizeOf}
+-- `size_of` meets its contract: it is made of the three choices of the rule. Assumes nothing.
+use borrow.Author.Needs.{needs}
+use mathlib.Core.Path.{_≡_}
+use lib.Ieee.{Float, ofBits, neg}
+use Rattle.angle.specs.Sine.{least, most, largerOf, smallerOf, sizeOf}
 use Rattle.angle.proofs.sine.size_of.Statement.{statement}
 use Rattle.angle.proofs.sine.size_of.Tie as tie
 
--- the rule by its three tests
-by : (t : Float) (a b d : Bool) → le least t ≡ a → le t most ≡ b → lt t (ofBits binary32 0) ≡ d → cond (a && b) (cond d (neg t) t) zero ≡ sizeOf t
+larger-requires : tie.Need-larger-requires
+larger-requires c κs = search needs
+
+larger-requires-2 : tie.Need-larger-requires-2
+larger-requires-2 c κs = search needs
+
+smaller-requires : tie.Need-smaller-requires
+smaller-requires c κs = search needs
+
+by : (t a b r : Float) → a ≡ largerOf t least → b ≡ largerOf (neg t) a → r ≡ smallerOf b most → r ≡ sizeOf t
 unfolding sizeOf
-by t a b d e f g = cc
+by t a b r e f g = cc
 
 returns : tie.Need-returns
-unfolding ofBits neg
-returns c = by (c .before .before .before .args .t) true true true (c .before .before .if1 .taken) (c .before .if2 .taken) (c .if3 .taken)
-
-returns-2 : tie.Need-returns-2
-unfolding ofBits neg
-returns-2 c = by (c .before .before .before .args .t) true true false (c .before .before .if1 .taken) (c .before .if2 .taken) (c .if3 .left)
-
-returns-3 : tie.Need-returns-3
-unfolding ofBits neg
-returns-3 c = by (c .before .before .args .t) true false _ (c .before .if1 .taken) (c .if2 .left) refl
-
-returns-4 : tie.Need-returns-4
-unfolding ofBits neg
-returns-4 c = by (c .before .args .t) false _ _ (c .if1 .left) refl refl
+unfolding ofBits
+returns c =
+    let r = c .smaller in
+    let b = c .before .larger2 in
+    let a = c .before .before .larger in
+    by (c .before .before .before .args .t) (a .result) (b .result) (r .result) (a .ensures) (b .ensures) (r .ensures)
 
 pub size-of-spec : {M : Type 1} → statement M
-size-of-spec =
-    tie.close
-    (tie.spec returns returns-2 returns-3 returns-4)
+size-of-spec = tie.close (tie.spec larger-requires larger-requires-2 smaller-requires returns)

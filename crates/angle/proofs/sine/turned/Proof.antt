@@ -1,15 +1,37 @@
--- `turned` meets its contract: the two cases of the code are those of the test. Assumes nothing.
-use mathlib.Core.Path.{sym, ap}
-use mathlib.Core.Bool.{Bool, cond}
-use lib.Ieee.{neg}
+-- `turned` meets its contract: 2 ^ 31 in the bits is a minus. Assumes nothing.
+use borrow.Author.Needs.{needs}
+use Prim.Native.Nat.{ℕ, _%_, _<_}
+use native.Mathlib.Omega.{arith}
+use Rattle.floats.proofs.Range.{yes}
+use Rattle.angle.proofs.sine.Minus.{turned-is, turned-number}
 use Rattle.angle.proofs.sine.turned.Statement.{statement}
 use Rattle.angle.proofs.sine.turned.Tie as tie
 
-returns : tie.Need-returns
-returns c = let y = c .before .args .y in sym (ap (λ (b : Bool). cond b (neg y) y) (c .if1 .taken))
+float-to-bits-wrapping-add-u32 : tie.Need-float-to-bits-wrapping-add-u32
+float-to-bits-wrapping-add-u32 c = search needs
 
-returns-2 : tie.Need-returns-2
-returns-2 c = let y = c .before .args .y in sym (ap (λ (b : Bool). cond b (neg y) y) (c .if1 .left))
+mul-wrapping-add-u32 : tie.Need-mul-wrapping-add-u32
+mul-wrapping-add-u32 c = search needs
+
+wrapping-add-u32-requires : tie.Need-wrapping-add-u32-requires
+wrapping-add-u32-requires c κs = search needs
+
+parity : (n : ℕ) → n % 2 < 2
+parity n = omega arith
+
+float-from-bits-result : tie.Need-float-from-bits-result
+float-from-bits-result c =
+    let o = c .before in
+    let w = c .wrapping-add-u32 in
+    turned-number (o .args .y) (yes (o .good .1 .0 .1)) (o .pre) (w .result) (o .args .n % 2) (parity (o .args .n)) (w .ensures)
+
+returns : tie.Need-returns
+returns c =
+    let o = c .before in
+    let w = c .wrapping-add-u32 in
+    turned-is (o .args .y) (yes (o .good .1 .0 .1)) (o .pre) (w .result) (o .args .n % 2) (parity (o .args .n)) (w .ensures)
 
 pub turned-spec : {M : Type 1} → statement M
-turned-spec = tie.close (tie.spec returns returns-2)
+turned-spec =
+    tie.close
+    (tie.spec float-to-bits-wrapping-add-u32 mul-wrapping-add-u32 wrapping-add-u32-requires float-from-bits-result returns)

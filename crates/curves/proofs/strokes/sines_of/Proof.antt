@@ -1,10 +1,9 @@
 -- `sines_of` meets its contract: the first j are worked out. Assumes nothing.
-use mathlib.Core.Path.{_≡_, sym, ap, _∙_}
-use mathlib.Core.List.{List, map}
-use Prim.Native.Nat.{ℕ, _-_, _≤_}
+use mathlib.Core.Path.{sym, ap, _∙_}
+use Prim.Native.Nat.{ℕ, _-_}
 use native.Mathlib.Omega.{arith}
-use lib.ListN.{length, getD}
-use lib.Ieee.{Float, nan}
+use lib.ListN.{getD}
+use lib.Ieee.{nan}
 use Rattle.angle.specs.declared.sine.SineCosine.{SineCosine}
 use Rattle.angle.specs.Sine.{sineOf, cosineOf, sineCosineOf}
 use Rattle.curves.proofs.strokes.Sixteen.{Filled, filled-none, filled-more, mapped}

@@ -4,7 +4,7 @@ use mathlib.Core.List.{List}
 use Prim.Native.Nat.{ℕ}
 use borrow.Author.Tests.{ne-eqb}
 use Rattle.cases.specs.declared.answer.Answer.{Answer}
-use Rattle.replies.specs.Ops as op
+use Rattle.cases.specs.Ops as op
 use Rattle.replies.specs.Answers.{response, respondBy}
 use Rattle.replies.proofs.Answered.{respond-is}
 use borrow.Author.Needs.{needs}

@@ -5,7 +5,7 @@ use Prim.Native.Nat.{ℕ}
 use borrow.Author.Tests.{ne-eqb}
 use Rattle.canvas.specs.Call.{call, putPixel, drawLine, drawRect, fillRect}
 use Rattle.canvas.specs.Areas.{invertRect}
-use Rattle.replies.specs.Ops as op
+use Rattle.cases.specs.Ops as op
 use Rattle.replies.specs.Calls.{drawnBy}
 use mir.Syntax.{w32}
 use mir.Val.{toZ}

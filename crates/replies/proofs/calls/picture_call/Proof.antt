@@ -4,7 +4,7 @@ use mathlib.Core.Path.{_∙_, ap, refl}
 use borrow.Author.Tests.{ne-eqb}
 use Rattle.canvas.specs.Call.{call, draw, statusOf, countOf}
 use Rattle.images.specs.Areas.{copyArea}
-use Rattle.replies.specs.Ops as op
+use Rattle.cases.specs.Ops as op
 use Rattle.replies.specs.Numbers.{canvasAt}
 use Rattle.replies.specs.Calls.{pictureBy}
 use mir.Syntax.{w32}

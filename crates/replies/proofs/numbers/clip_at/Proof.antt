@@ -3,7 +3,7 @@ use mathlib.Core.Logic.{inl, inr}
 use mathlib.Core.Path.{_≡_, refl}
 use borrow.Author.Tests.{ne-eqb}
 use lib.Dec.{lit≤}
-use Rattle.replies.specs.Ops as op
+use Rattle.cases.specs.Ops as op
 use Rattle.replies.specs.Numbers.{clipStart}
 use Rattle.replies.proofs.Ops.{either, any-of}
 use Rattle.replies.proofs.numbers.clip_at.Statement.{statement}
