@@ -1,4 +1,4 @@
-//! Each helper of the crate number against the Rust's method: boundaries first, then every f32, or hundreds of millions.
+//! Each helper of the crate floats against the Rust's method: boundaries first, then every f32, or hundreds of millions.
 unsafe extern "C" {
     safe fn number_radians(x: f32) -> f32;
     safe fn number_rem_euclid_360(x: f32) -> f32;
