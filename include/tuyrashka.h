@@ -118,7 +118,8 @@ uint32_t tuyrashka_fill_round_rect(const struct tuyrashka_canvas *canvas, uint8_
                                    int32_t x, int32_t y, uint32_t w, uint32_t h, uint32_t arc_w, uint32_t arc_h,
                                    uint32_t argb, const struct tuyrashka_clip *clip, struct tuyrashka_drawn *drawn);
 
-/* Inverts the colours of the box and keeps alpha, whatever xor_mode is. */
+/* Inverts the colours of the box and keeps alpha, whatever xor_mode is. Inverting again takes it away, but that Rgb8's top
+ * bytes are 0 then; among drawings with XOR on it may come at any turn. */
 uint32_t tuyrashka_invert_rect(const struct tuyrashka_canvas *canvas, uint8_t *data, size_t data_len,
                                int32_t x, int32_t y, uint32_t w, uint32_t h,
                                const struct tuyrashka_clip *clip, struct tuyrashka_drawn *drawn);

@@ -1,5 +1,5 @@
-//! Lists of XOR calls, by the static library and by the Rust: `lists N SEED`. Each list is drawn in two orders, and once
-//! more to take it away.
+//! Lists of XOR calls and inversions, by the static library and by the Rust: `lists N SEED`. Each list is drawn in two
+//! orders, and once more to take it away.
 
 extern crate alloc;
 
@@ -26,10 +26,10 @@ use answer::{landed, refusal};
 use case::{Call, Case, Screen};
 use oracle::library::{Answer, ours};
 use oracle::random::Chance;
-use sides::{mark, rust};
+use sides::{Marks, rust};
 
-/// The calls that plot or draw an image.
-const OPS: [&str; 9] = ["put", "line", "rect", "fill", "rrect", "frrect", "arc", "pie", "draw"];
+/// The calls that plot or draw an image, and inversion as often as two of them.
+const OPS: [&str; 11] = ["put", "line", "rect", "fill", "rrect", "frrect", "arc", "pie", "draw", "invert", "invert"];
 
 /// Failures printed in full; the rest are only counted.
 const SHOWN: u64 = 5;
@@ -85,16 +85,18 @@ impl List {
         Screen { bytes: bytes.to_vec(), ..self.screen }
     }
 
-    /// The first bytes, with alpha 255 where a plot of another alpha than 0 landed, in the formats that keep it.
+    /// The first bytes, with alpha 255 where a plot of another alpha than 0 landed, in the formats that keep it, and a
+    /// top byte of 0 where an inversion did, in Rgb8.
     fn settled(&self) -> Vec<u8> {
         let mut bytes = self.screen.bytes.clone();
-        if self.screen.format < 3 {
-            return bytes;
-        }
-        let mut marks = vec![false; bytes.len() / 4];
-        self.calls.iter().for_each(|call| mark(&self.screen, call, &mut marks));
-        let alphas = bytes.iter_mut().skip(3).step_by(4);
-        alphas.zip(marks).filter(|(_, marked)| *marked).for_each(|(alpha, _)| *alpha = 255);
+        let marks = Marks::of(&self.screen, &self.calls);
+        let (marked, top) = match self.screen.format {
+            0 | 1 => return bytes,
+            2 => (marks.inverted, 0),
+            _ => (marks.xored, 255),
+        };
+        let tops = bytes.iter_mut().skip(3).step_by(4);
+        tops.zip(marked).filter(|(_, marked)| *marked).for_each(|(byte, _)| *byte = top);
         bytes
     }
 }
@@ -129,6 +131,8 @@ struct Tally {
     plots: u64,
     /// Lists that leave other bytes than the first.
     seen: u64,
+    /// Lists that leave other bytes than the first even when they are taken away.
+    stained: u64,
 }
 
 impl Tally {
@@ -143,27 +147,28 @@ impl Tally {
         hold(theirs == list.rust(other, bytes), "the Rust leaves other bytes in the other order")?;
 
         let expected = list.expected();
-        self.count(&expected, first != *bytes);
+        let settled = list.settled();
+        self.count(&expected, first != *bytes, settled != *bytes);
         hold(first == theirs, "ours leaves other bytes than the Rust")?;
         hold(answers == expected, "ours answers otherwise than the Rust")?;
-        let settled = list.settled();
         hold(list.ours(other, &first).0 == settled, "ours does not take the list away")?;
         hold(list.rust(other, &theirs) == settled, "the Rust does not take the list away")
     }
 
-    fn count(&mut self, answers: &[Answer], seen: bool) {
+    fn count(&mut self, answers: &[Answer], seen: bool, stained: bool) {
         self.lists += 1;
         self.calls += answers.len() as u64;
         self.refused += answers.iter().filter(|(number, _)| *number != 0).count() as u64;
         self.plots += answers.iter().map(|(_, count)| count).sum::<u64>();
         self.seen += seen as u64;
+        self.stained += stained as u64;
     }
 
     fn say(&self, seed: u64, failed: u64) {
-        let Tally { lists, calls, refused, plots, seen } = self;
+        let Tally { lists, calls, refused, plots, seen, stained } = self;
         println!(
             "{lists} lists (seed {seed}) in two orders and twice: {calls} calls, {refused} of them refused, {plots} plots landed, \
-             {seen} lists seen; {failed} lists fail"
+             {seen} lists seen, {stained} leave a stain; {failed} lists fail"
         );
     }
 }

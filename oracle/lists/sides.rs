@@ -13,29 +13,37 @@ pub fn rust<'a>(screen: &Screen, calls: impl Iterator<Item = &'a Call>) -> Vec<u
     canvas.image().raw().into_owned()
 }
 
-/// Marks the pixels on which a plot of another alpha than 0 lands, with XOR on: it is just these that it XORs.
-pub fn mark(screen: &Screen, call: &Call, marks: &mut Vec<bool>) {
-    if refusal(screen, call) != 0 {
-        return;
-    }
-    let mut canvas = ImageBufferCanvas::new(Marks { width: screen.width, height: screen.height, marks: std::mem::take(marks) });
-    canvas.set_xor_mode(true);
-    paint(&mut canvas, call);
-    *marks = canvas.into_inner().marks;
-}
-
-/// A screen that keeps what was XORed on it.
-struct Marks {
+/// A screen that keeps where it was XORed and where it was inverted, with XOR on: a plot of another alpha than 0 XORs,
+/// and an inversion puts.
+pub struct Marks {
     width: u32,
     height: u32,
-    marks: Vec<bool>,
+    pub xored: Vec<bool>,
+    pub inverted: Vec<bool>,
+}
+
+impl Marks {
+    /// The marks of calls; what we refuse is passed over.
+    pub fn of(screen: &Screen, calls: &[Call]) -> Marks {
+        let Screen { width, height, .. } = *screen;
+        let none = vec![false; width as usize * height as usize];
+        let mut canvas = ImageBufferCanvas::new(Marks { width, height, xored: none.clone(), inverted: none });
+        canvas.set_xor_mode(true);
+        calls.iter().filter(|call| refusal(screen, call) == 0).for_each(|call| paint(&mut canvas, call));
+        canvas.into_inner()
+    }
+
+    fn place(&self, x: i32, y: i32) -> usize {
+        y as usize * self.width as usize + x as usize
+    }
 }
 
 blank!(Marks);
 
 impl ImageBuffer for Marks {
-    fn put_pixel(&mut self, _: i32, _: i32, _: Color) {
-        unreachable!("XOR is on")
+    fn put_pixel(&mut self, x: i32, y: i32, _: Color) {
+        let place = self.place(x, y);
+        self.inverted[place] = true;
     }
 
     fn put_pixels(&mut self, _: i32, _: i32, _: u32, _: &[Color]) {
@@ -43,6 +51,7 @@ impl ImageBuffer for Marks {
     }
 
     fn xor_pixel(&mut self, x: i32, y: i32, _: Color) {
-        self.marks[y as usize * self.width as usize + x as usize] = true;
+        let place = self.place(x, y);
+        self.xored[place] = true;
     }
 }

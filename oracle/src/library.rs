@@ -37,15 +37,16 @@ pub fn ours(screen: &mut Screen, xor: bool, call: &Call) -> Answer {
             Call::FillRoundRect { at: Area(x, y, w, h), arc: (aw, ah), color, clip } => {
                 tuyrashka_fill_round_rect(canvas, data, length, x, y, w, h, aw, ah, word(color), &part(clip), d)
             }
+            Call::Invert { at: Area(x, y, w, h), clip } => {
+                tuyrashka_invert_rect(canvas, data, length, x, y, w, h, &part(clip), d)
+            }
             Call::Draw { at: Area(dx, dy, w, h), ref source, from: (sx, sy), clip } => {
                 let Screen { format, width, height, bytes: ref image } = *source;
                 let source = Canvas { format, width, height, xor_mode: xor.into() };
                 let (image, image_length) = (image.as_ptr(), image.len());
                 tuyrashka_draw(canvas, data, length, dx, dy, w, h, &source, image, image_length, sx, sy, &part(clip), d)
             }
-            Call::Get { .. } | Call::Copy { .. } | Call::Invert { .. } | Call::Lbmp { .. } | Call::Res { .. } => {
-                unreachable!("not in a list")
-            }
+            Call::Get { .. } | Call::Copy { .. } | Call::Lbmp { .. } | Call::Res { .. } => unreachable!("not in a list"),
         }
     };
     (status, drawn.landed)

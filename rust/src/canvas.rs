@@ -122,7 +122,8 @@ calls! {
     draw_round_rect = tuyrashka_draw_round_rect(x: i32, y: i32, w: u32, h: u32, arc_w: u32, arc_h: u32; color);
     /// Fills a box with round corners, which are those of [`Canvas::draw_round_rect`].
     fill_round_rect = tuyrashka_fill_round_rect(x: i32, y: i32, w: u32, h: u32, arc_w: u32, arc_h: u32; color);
-    /// Inverts the colours of a box and keeps alpha, whether XOR is on or off.
+    /// Inverts the colours of a box and keeps alpha, whether XOR is on or off. Inverting again takes it away, but that the top
+    /// bytes of [`Format::Rgb8`](crate::Format::Rgb8) are 0 then; among drawings with XOR on it may come at any turn.
     invert_rect = tuyrashka_invert_rect(x: i32, y: i32, w: u32, h: u32);
     /// Copies the box at `(sx, sy)` to `(dx, dy)`, as if all were read before any is written, whether XOR is on or off. Points
     /// that come from off the canvas are left out.

@@ -61,6 +61,38 @@ fn xor_is_undone_in_every_format() {
     }
 }
 
+/// A menu bar is an inversion. A box over it may come before it or after, and again in any order both are taken away, but that
+/// alpha is 255 where the box was, and Rgb8's top byte 0 where the bar was.
+#[test]
+fn a_bar_and_a_box_come_in_any_order() {
+    for format in [Rgb332, Rgb565, Rgb8, Argb, Abgr] {
+        let mut before = noise(format.bytes(9, 7));
+        let draw = |data: &mut Vec<u8>, bar_first: bool| {
+            let mut canvas = Canvas::new(format, 9, 7, data);
+            canvas.set_xor(true);
+            for bar in [bar_first, !bar_first] {
+                let drawn = match bar {
+                    true => canvas.invert_rect(0, 5, 9, 9, Clip::whole()),
+                    false => canvas.fill_rect(6, 4, 2, 2, WHITE, Clip::whole()),
+                };
+                assert_eq!(landed(drawn), Ok(if bar { 18 } else { 4 }));
+            }
+        };
+        let (mut one, mut other) = (before.clone(), before.clone());
+        draw(&mut one, true);
+        draw(&mut other, false);
+        assert_eq!(one, other);
+        assert_ne!(one, before);
+        draw(&mut one, false);
+        match format {
+            Rgb8 => (45..63).for_each(|pixel| before[4 * pixel + 3] = 0),
+            Argb | Abgr => [42, 43, 51, 52].iter().for_each(|pixel| before[4 * pixel + 3] = 255),
+            _ => (),
+        }
+        assert_eq!(one, before);
+    }
+}
+
 #[test]
 fn the_first_sample_has_its_answer() {
     let first = |text: &'static str| text.lines().next();

@@ -1,7 +1,7 @@
--- The laws of blending: a word keeps to its format's range, an ink does what drawing with XOR on does, and drawings with XOR on
--- commute and settle when made twice as plots do.
+-- The laws of blending: a word keeps to its format's range, an ink does what drawing with XOR on does, and a drawing with XOR on is the
+-- stamp of a plot.
 use mathlib.Core.Path.{_≡_, refl, ap}
-use mathlib.Core.Bool.{Bool, true, false, cond, _||_}
+use mathlib.Core.Bool.{Bool, true, false, cond, not, _&&_, _||_}
 use Prim.Native.Nat.{ℕ, _*_, _≤_, _<_}
 use native.Mathlib.Nat.{mul-le-mul}
 use native.Mathlib.Omega.{arith}
@@ -10,8 +10,9 @@ use lib.Ieee.Casts.{toUnsigned-lt}
 use Rattle.words.specs.declared.Color.{Color}
 use Rattle.words.specs.Format.{Format, range}
 use Rattle.words.specs.Word.{color, fromColor, toColor}
-use Rattle.words.specs.Ink.{inked, plotInk, settles}
-use Rattle.words.proofs.Laws.{Channels, fits, ink-is, plot-keeps, plot-swap, plot-twice}
+use Rattle.words.specs.Ink.{keepsAlpha, inked, plotInk}
+use Rattle.words.proofs.Laws.{Channels, fits, ink-is}
+use Rattle.words.proofs.Stamps.{Stamps, plot-stamps, plot-keeps}
 use Rattle.blending.specs.Blend.{part, scaled, mix, over, blendWord}
 
 -- ---- channels stay bytes
@@ -64,12 +65,15 @@ pub blend-ink-is : (f : Format) (c : Color) (w : ℕ) → Channels c → w < ran
 unfolding blendWord
 blend-ink-is f c w h l = ink-is f true (scaled c) w (scaled-channels c h) l
 
-pub blend-swap :
-    (f : Format) (c d : Color) (w : ℕ) → Channels c → Channels d →
-    blendWord f true c (blendWord f true d w) ≡ blendWord f true d (blendWord f true c w)
-unfolding blendWord
-blend-swap f c d w hc hd = plot-swap f (scaled c) (scaled d) w (scaled-channels c hc) (scaled-channels d hd)
+scaled-alpha : (c : Color) → eqb (scaled c .a) 0 ≡ eqb (c .a) 0
+unfolding scaled
+scaled-alpha c = go (eqb (c .a) 0 || eqb (c .a) 255)
+  where
+    go : (t : Bool) → eqb (cond t c (color (c .a) (part (c .a) (c .r)) (part (c .a) (c .g)) (part (c .a) (c .b))) .a) 0 ≡ eqb (c .a) 0
+    go true = refl
+    go false = refl
 
-pub blend-twice : (f : Format) (c : Color) (w : ℕ) → Channels c → blendWord f true c (blendWord f true c w) ≡ settles f (scaled c) w
+-- A drawing is the stamp of a plot.
+pub blend-stamps : (f : Format) (c : Color) → Channels c → Stamps f (not (eqb (c .a) 0) && keepsAlpha f) (blendWord f true c)
 unfolding blendWord
-blend-twice f c w h = plot-twice f (scaled c) w (scaled-channels c h)
+blend-stamps f c h = rw (← scaled-alpha c) (plot-stamps f (scaled c) (scaled-channels c h))

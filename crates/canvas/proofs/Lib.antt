@@ -1,4 +1,4 @@
 pub mod Accepted
-pub mod Alphas
+pub mod Stains
 pub mod Determined
 pub mod Reverse

@@ -5,10 +5,9 @@ use Prim.Native.Nat.{ℕ, zero, suc, _*_, _-_}
 use lib.Dec.{eqb}
 use lib.IntN.{ℤ, pos, _+ℤ_, _-ℤ_}
 use lib.Signed.{ltZ}
-use Rattle.words.specs.declared.Color.{Color}
 use Rattle.pixels.specs.declared.Canvas.{Canvas}
 use Rattle.canvas.specs.Clip.{within}
-use Rattle.canvas.specs.Plot.{Point, at, Plot, plot, Dot, dot}
+use Rattle.canvas.specs.Plot.{Point, at, Plot, plot, Dye, Dot, dot}
 
 -- Those of the n numbers from i on that pass a test.
 unfoldable pub select : (ℕ → Bool) → ℕ → ℕ → List ℕ
@@ -23,9 +22,9 @@ side a len n = select (λ i. within a len (pos i)) 0 n
 unfoldable pub spots : (ℕ → ℕ → ℕ → ℕ) → List ℕ → List ℕ → List Plot
 spots f xs ys = flatMap (λ j. flatMap (λ i. plot (f i j) (pos i) (pos j) ∷ []) xs) ys
 
--- A dot at each pixel of some columns and rows, row by row; its colour may hang on the pixel.
-unfoldable pub picture : (ℕ → ℕ → Color) → List ℕ → List ℕ → List Dot
-picture c xs ys = flatMap (λ j. flatMap (λ i. dot (c i j) (pos i) (pos j) ∷ []) xs) ys
+-- A dot at each pixel of some columns and rows, row by row; its dye may hang on the pixel.
+unfoldable pub picture : (ℕ → ℕ → Dye) → List ℕ → List ℕ → List Dot
+picture d xs ys = flatMap (λ j. flatMap (λ i. dot (d i j) (pos i) (pos j) ∷ []) xs) ys
 
 -- The overlap of a box and the canvas, row by row.
 unfoldable pub fill : Canvas → ℤ → ℤ → ℕ → ℕ → List Point

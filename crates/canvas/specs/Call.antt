@@ -6,6 +6,7 @@ use lib.ListN.{length}
 use Rattle.words.specs.declared.Color.{Color}
 use Rattle.words.specs.Word.{toColor}
 use Rattle.words.specs.Ink.{plotWord}
+use Rattle.words.specs.Invert.{invertWord}
 use Rattle.blending.specs.Blend.{blendWord}
 use Rattle.pixels.specs.declared.Canvas.{Canvas}
 use Rattle.canvas.specs.declared.Clip.{Clip}
@@ -15,54 +16,58 @@ use Rattle.canvas.specs.declared.faults.Verdict.{Verdict}
 use Rattle.canvas.specs.declared.faults.Verdict.the-variants.{Sound, Faulty}
 use Rattle.pixels.specs.Bytes.{form, loadAt}
 use Rattle.canvas.specs.Faults.{number, orElse, verdict, asSource}
-use Rattle.canvas.specs.Plot.{Point, Plot, at, Dot, tint, dip, hits}
+use Rattle.canvas.specs.Plot.{Point, Plot, at, Dye, plain, over, inverse, Dot, tint, dip, hits}
 use Rattle.pixels.specs.Hits.{paint}
 use Rattle.canvas.specs.Lines.{line}
 use Rattle.canvas.specs.Boxes.{fill, outline, picture, sourceOf, shown}
 
--- A call that XOR takes away: a shape in one colour, by its own faults and its points on a canvas; or a box of an image.
+-- A call that a second one takes away: a shape in one dye, by its own faults and its points on a canvas; or a box of an image.
 pub data Call : Type 0 where
-  shape : Verdict → (Canvas → List Point) → Color → Clip → Call
+  shape : Verdict → (Canvas → List Point) → Dye → Clip → Call
   draw : ℤ → ℤ → ℕ → ℕ → Canvas → List ℕ → ℤ → ℤ → Clip → Call
 
 abbrev pub putPixel : ℤ → ℤ → Color → Clip → Call
-putPixel x y color clip = shape Sound (λ v. at x y ∷ []) color clip
+putPixel x y color clip = shape Sound (λ v. at x y ∷ []) (plain color) clip
 
 abbrev pub drawLine : ℤ → ℤ → ℤ → ℤ → Color → Clip → Call
-drawLine x1 y1 x2 y2 color clip = shape Sound (λ v. line v x1 y1 x2 y2) color clip
+drawLine x1 y1 x2 y2 color clip = shape Sound (λ v. line v x1 y1 x2 y2) (plain color) clip
 
 abbrev pub drawRect : ℤ → ℤ → ℕ → ℕ → Color → Clip → Call
-drawRect x y w h color clip = shape Sound (λ v. outline v x y w h) color clip
+drawRect x y w h color clip = shape Sound (λ v. outline v x y w h) (plain color) clip
 
 abbrev pub fillRect : ℤ → ℤ → ℕ → ℕ → Color → Clip → Call
-fillRect x y w h color clip = shape Sound (λ v. fill v x y w h) color clip
+fillRect x y w h color clip = shape Sound (λ v. fill v x y w h) (plain color) clip
+
+abbrev pub invertRect : ℤ → ℤ → ℕ → ℕ → Clip → Call
+invertRect x y w h clip = shape Sound (λ v. fill v x y w h) inverse clip
 
 abbrev pub clipOf : Call → Clip
-clipOf (shape own points color clip) = clip
+clipOf (shape own points dye clip) = clip
 clipOf (draw dx dy w h source image sx sy clip) = clip
 
 -- Its faults beside those of the canvas: "4 SOURCE", "5 ANGLE" and "6 SHAPE", of the calls that they are for.
 abbrev pub faultOf : Call → Verdict
-faultOf (shape own points color clip) = own
+faultOf (shape own points dye clip) = own
 faultOf (draw dx dy w h source image sx sy clip) = asSource (verdict source (length image))
 
 -- The colour of the source that comes to a pixel.
 abbrev pub sourceColor : Canvas → List ℕ → ℤ → ℤ → ℤ → ℤ → ℕ → ℕ → Color
 sourceColor s image dx dy sx sy i j = toColor (form s) (loadAt s image (natAbs (sourceOf dx sx i)) (natAbs (sourceOf dy sy j)))
 
--- Its points with their colours, on the canvas or off it, in the order of its rules.
+-- Its points with their dyes, on the canvas or off it, in the order of its rules.
 unfoldable pub dots : Canvas → Call → List Dot
-dots v (shape own points color clip) = tint color (points v)
+dots v (shape own points dye clip) = tint dye (points v)
 dots v (draw dx dy w h source image sx sy clip) =
-    picture (sourceColor source image dx dy sx sy) (shown dx sx w (source .width) (v .width)) (shown dy sy h (source .height) (v .height))
+    picture (λ i j. over (sourceColor source image dx dy sx sy i j)) (shown dx sx w (source .width) (v .width)) (shown dy sy h (source .height) (v .height))
 
--- What a colour makes of the word stored on this canvas: "`draw` blends instead."
-abbrev pub brush : Canvas → Call → Color → ℕ → ℕ
-brush v (shape own points color clip) = plotWord (form v) (v .xor)
-brush v (draw dx dy w h source image sx sy clip) = blendWord (form v) (v .xor)
+-- What a dye makes of the word stored on this canvas: "`draw` blends instead."; "`copy_area` and `invert_rect` ignore XOR."
+abbrev pub brush : Canvas → Dye → ℕ → ℕ
+brush v (plain c) = plotWord (form v) (v .xor) c
+brush v (over c) = blendWord (form v) (v .xor) c
+brush v inverse = invertWord (form v)
 
 abbrev pub plots : Canvas → Call → List Plot
-plots v k = dip (brush v k) (dots v k)
+plots v k = dip (brush v) (dots v k)
 
 -- What a caller gets back, and what the lent bytes hold then.
 pub record Outcome : Type 0 where
@@ -90,7 +95,8 @@ abbrev pub ruled : Verdict → ℕ → List ℕ → List ℕ → Outcome
 ruled Sound n painted b = outcome 0 n painted
 ruled (Faulty r) n painted b = outcome (number r) 0 b
 
--- "a count ..: the pixels touched, being the number of plots that land on the canvas and inside the clip"
+-- "a count ..: the pixels touched, being the number of plots that land on the canvas and inside the clip"; "For area copy and inversion
+-- it is the number of pixels written."
 unfoldable pub drawing : Verdict → Canvas → Clip → List Plot → List ℕ → Outcome
 drawing d v c ps b = ruled d (length (hits v c ps)) (paint v (hits v c ps) b) b
 

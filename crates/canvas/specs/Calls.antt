@@ -1,39 +1,55 @@
--- Calls made one after the other on one canvas.
-use mathlib.Core.Bool.{Bool, false, cond, _&&_, _||_}
-use mathlib.Core.List.{List, [], _∷_}
+-- Calls made one after the other on one canvas, and what stays of them when they are made again.
+use mathlib.Core.Bool.{Bool, true, false, cond, not, _&&_, _||_}
+use mathlib.Core.List.{List, [], _∷_, _++_}
 use Prim.Native.Nat.{ℕ}
 use lib.Dec.{eqb}
+use Rattle.words.specs.Format.{Format}
+use Rattle.words.specs.Ink.{keepsAlpha, settled}
 use Rattle.pixels.specs.declared.Canvas.{Canvas}
 use Rattle.canvas.specs.declared.faults.Verdict.{Verdict}
 use Rattle.canvas.specs.declared.faults.Verdict.the-variants.{Sound, Faulty}
-use Rattle.canvas.specs.Plot.{Dot, dip, hits}
+use Rattle.pixels.specs.Bytes.{form}
+use Rattle.canvas.specs.Plot.{Plot, Dye, plain, over, inverse, Dot, dip, hits}
 use Rattle.pixels.specs.Hits.{Hit}
-use Rattle.canvas.specs.Call.{Call, clipOf, faultOf, dots, brush, call}
+use Rattle.canvas.specs.Call.{Call, shape, draw, clipOf, faultOf, dots, call}
 
 -- What the lent bytes hold after them.
 unfoldable pub after : Canvas → List Call → List ℕ → List ℕ
 after v [] b = b
 after v (k ∷ ks) b = after v ks (call v k b .bytes)
 
--- The hits of some of a call's dots: none where the call has a fault of its own.
+-- The hits of some of a call's plots: none where the call has a fault of its own.
 abbrev pub unless : Verdict → List Hit → List Hit
 unless Sound hs = hs
 unless (Faulty r) hs = []
 
-abbrev pub landing : Canvas → Call → List Dot → List Hit
-landing v k ds = unless (faultOf k) (hits v (clipOf k) (dip (brush v k) ds))
+abbrev pub landing : Canvas → Call → List Plot → List Hit
+landing v k ps = unless (faultOf k) (hits v (clipOf k) ps)
+
+-- "the second pass restores them, with two exceptions": of which dyes something stays, and where. "the alpha rule of demand 3": of a
+-- colour whose alpha is not 0, where alpha is kept. "and top bytes of Rgb8 pixels under an inversion": of inversion, where it is not.
+abbrev pub stays : Format → Dye → Bool
+stays f (plain c) = not (eqb (c .a) 0) && keepsAlpha f
+stays f (over c) = not (eqb (c .a) 0) && keepsAlpha f
+stays f inverse = not (keepsAlpha f)
+
+unfoldable pub staying : Format → List Dot → List Dot
+staying f [] = []
+staying f (d ∷ ds) = cond (stays f (d .dye)) (d ∷ staying f ds) (staying f ds)
+
+-- What stays of calls: where such a dye lands, the word is settled.
+unfoldable pub stains : Canvas → List Call → List Hit
+stains v [] = []
+stains v (k ∷ ks) = landing v k (dip (λ d. settled (form v)) (staying (form v) (dots v k))) ++ stains v ks
 
 -- Whether a hit is on the pixel at x and y.
 unfoldable pub struck : List Hit → ℕ → ℕ → Bool
 struck [] x y = false
 struck (h ∷ hs) x y = (eqb (h .x) x && eqb (h .y) y) || struck hs x y
 
--- The dots whose alpha is not 0.
-unfoldable pub visible : List Dot → List Dot
-visible [] = []
-visible (d ∷ ds) = cond (eqb (d .color .a) 0) (visible ds) (d ∷ visible ds)
-
--- Whether a plot of a colour whose alpha is not 0 lands on it.
-unfoldable pub madeSolid : Canvas → List Call → ℕ → ℕ → Bool
-madeSolid v [] x y = false
-madeSolid v (k ∷ ks) x y = struck (landing v k (visible (dots v k))) x y || madeSolid v ks x y
+-- Whether a call is an inversion.
+abbrev pub inverts : Call → Bool
+inverts (shape own points (plain c) clip) = false
+inverts (shape own points (over c) clip) = false
+inverts (shape own points inverse clip) = true
+inverts (draw dx dy w h source image sx sy clip) = false

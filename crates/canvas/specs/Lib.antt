@@ -5,7 +5,6 @@ pub mod Lines
 pub mod Boxes
 pub mod Call
 pub mod Calls
-pub mod Areas
 pub mod Look
 pub mod Walk
 pub mod Trail

@@ -30,21 +30,27 @@ plot f x y = record { x = x; y = y; ink = f }
 unfoldable pub inks : (ℕ → ℕ) → List Point → List Plot
 inks f ps = map (λ p. plot f (p .x) (p .y)) ps
 
--- A point, and the colour plotted there.
+-- What is put on a point: a colour plotted, a colour drawn over what is there, or the complement of what is there.
+pub data Dye : Type 0 where
+  plain : Color → Dye
+  over : Color → Dye
+  inverse : Dye
+
+-- A point, and what is put on it.
 pub record Dot : Type 0 where
   pub x : ℤ
   pub y : ℤ
-  pub color : Color
+  pub dye : Dye
 
-abbrev pub dot : Color → ℤ → ℤ → Dot
-dot c x y = record { x = x; y = y; color = c }
+abbrev pub dot : Dye → ℤ → ℤ → Dot
+dot d x y = record { x = x; y = y; dye = d }
 
-unfoldable pub tint : Color → List Point → List Dot
-tint c ps = map (λ p. dot c (p .x) (p .y)) ps
+unfoldable pub tint : Dye → List Point → List Dot
+tint d ps = map (λ p. dot d (p .x) (p .y)) ps
 
--- The plots of dots, by what a colour makes of the word stored.
-unfoldable pub dip : (Color → ℕ → ℕ) → List Dot → List Plot
-dip g ds = map (λ d. plot (g (d .color)) (d .x) (d .y)) ds
+-- The plots of dots, by what a dye makes of the word stored.
+unfoldable pub dip : (Dye → ℕ → ℕ) → List Dot → List Plot
+dip g ds = map (λ d. plot (g (d .dye)) (d .x) (d .y)) ds
 
 unfoldable pub onCanvas : Canvas → ℤ → ℤ → Bool
 onCanvas v x y = within (pos 0) (v .width) x && within (pos 0) (v .height) y

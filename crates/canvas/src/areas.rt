@@ -1,7 +1,6 @@
 // Inversion, which ignores XOR.
 ghost use mathlib.Core.Path.{_≡_};
-ghost use Rattle.canvas.specs.Call.{leaves};
-ghost use Rattle.canvas.specs.Areas.{invertRect};
+ghost use Rattle.canvas.specs.Call.{invertRect, leaves, call};
 use crate::Clip;
 use crate::Drawn;
 use crate::Tally;
@@ -21,7 +20,7 @@ pub fn invert_rect(
     h: u32,
     clip: Clip,
 ) -> Drawn
-    ensures { λ r. ⌜ leaves r (now (bytes .exit)) ≡ invertRect canvas x y w h clip (now (bytes .entry)) ⌝ }
+    ensures { λ r. ⌜ leaves r (now (bytes .exit)) ≡ call canvas (invertRect x y w h clip) (now (bytes .entry)) ⌝ }
 {
     match judge(canvas, bytes.len()) {
         Verdict::Faulty(r) => Drawn::Refused(r),

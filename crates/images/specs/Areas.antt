@@ -1,4 +1,4 @@
--- Area copy: "`copy_area` and `invert_rect` ignore XOR.", and are no drawings that XOR takes away.
+-- Area copy: "`copy_area` and `invert_rect` ignore XOR."; a copy is no drawing that a second one takes away.
 -- "Both clear the top byte of Rgb8 pixels they write", since they go through the colour.
 use mathlib.Core.List.{List}
 use Prim.Native.Nat.{ℕ}

@@ -53,10 +53,10 @@ touch-twice v b x y f g c o k =
     = load-store v b (c .long) x y (f (loadAt v b x y)) o (k _ (load-lt v b x y (c .bytes))) in
     rw q (store-store v b x y (f (loadAt v b x y)) (g (f (loadAt v b x y))))
 
--- an ink that changes nothing
-touch-id : (v : Canvas) (b : List ℕ) (x y : ℕ) → Bytes b → touch v b (hit (λ w. w) x y) ≡ b
+-- an ink that changes no word
+pub touch-idle : (v : Canvas) (b : List ℕ) (h : Hit) → Screen v b → ((w : ℕ) → w < range (form v) → h .ink w ≡ w) → touch v b h ≡ b
 unfolding touch
-touch-id v b x y h = store-load v b x y h
+touch-idle v b h c e = touch-ink v b (h .x) (h .y) (h .ink) (λ w. w) (c .bytes) e ∙ store-load v b (h .x) (h .y) (c .bytes)
 
 touch-apart : (v : Canvas) (b : List ℕ) (h k : Hit) → On v (h .x) (h .y) → On v (k .x) (k .y) → Other (h .x) (h .y) (k .x) (k .y) → touch v (touch v b h) k ≡ touch v (touch v b k) h
 unfolding touch
@@ -66,6 +66,10 @@ touch-apart v b h k o p d =
     let f : loadAt v (storeAt v b (k .x) (k .y) (k .ink (loadAt v b (k .x) (k .y)))) (h .x) (h .y) ≡ loadAt v b (h .x) (h .y)
     = load-other v b (k .x) (k .y) _ (h .x) (h .y) p o (λ q s. d (sym q) (sym s)) in
     rw (e, f) (store-comm v b (h .x) (h .y) _ (k .x) (k .y) o p d _)
+
+-- a hit's ink put on twice
+abbrev pub doubled : Hit → Hit
+doubled h = hit (λ w. h .ink (h .ink w)) (h .x) (h .y)
 
 module _ (v : Canvas) (Ok : Hit → Type 0) (fam : Family v Ok) where
   touch-same : (b : List ℕ) (x y : ℕ) (f g : ℕ → ℕ) → Screen v b → Ok (hit f x y) → Ok (hit g x y)
@@ -112,9 +116,6 @@ module _ (v : Canvas) (Ok : Hit → Type 0) (fam : Family v Ok) where
   paint-perm b (List·Permᴰ·trans p q) c os = paint-perm b p c os ∙ paint-perm b q c (all-perm p os)
 
   -- a second pass leaves of each hit what its ink leaves of itself
-  abbrev pub doubled : Hit → Hit
-  doubled h = hit (λ w. h .ink (h .ink w)) (h .x) (h .y)
-
   paint-again : (hs : List Hit) (b : List ℕ) → Screen v b → All Ok hs → paint v hs (paint v hs b) ≡ paint v (map doubled hs) b
   unfolding paint
   paint-again [] b c none = refl
@@ -127,15 +128,11 @@ module _ (v : Canvas) (Ok : Hit → Type 0) (fam : Family v Ok) where
   paint-back hs ks b p c os =
       paint-append v hs ks b ∙ sym (paint-perm (paint v hs b) p (paint-screen hs c) os) ∙ paint-again hs b c os
 
-  -- inks that undo themselves leave the bytes
-  pub paint-none : (hs : List Hit) (b : List ℕ) → Screen v b → All Ok hs → ((h : Hit) → Ok h → (w : ℕ) → w < range (form v) → h .ink (h .ink w) ≡ w)
-      → paint v (map doubled hs) b ≡ b
-  unfolding paint
-  paint-none [] b c none e = refl
-  paint-none (h ∷ hs) b c (also o os) e =
-      ap (paint v (map doubled hs))
-      (touch-ink v b (h .x) (h .y) (λ w. h .ink (h .ink w)) (λ w. w) (c .bytes) (λ w l. e h o w l) ∙ touch-id v b (h .x) (h .y) (c .bytes))
-      ∙ paint-none hs b c os e
+-- inks that change no word leave the bytes
+pub paint-idle : (v : Canvas) (hs : List Hit) (b : List ℕ) → Screen v b → All (λ h. (w : ℕ) → w < range (form v) → h .ink w ≡ w) hs → paint v hs b ≡ b
+unfolding paint
+paint-idle v [] b c none = refl
+paint-idle v (h ∷ hs) b c (also e es) = ap (paint v hs) (touch-idle v b h c e) ∙ paint-idle v hs b c es
 
 -- ---- hits whose ink hangs on the pixel alone
 

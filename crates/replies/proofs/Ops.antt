@@ -13,8 +13,7 @@ use mir.ValLaws.{toZ-ofZ}
 use Rattle.words.specs.declared.Color.{Color}
 use Rattle.pixels.specs.declared.Canvas.{Canvas}
 use Rattle.canvas.specs.declared.Clip.{Clip}
-use Rattle.canvas.specs.Call.{draw, putPixel, drawLine, drawRect, fillRect, Outcome, call}
-use Rattle.canvas.specs.Areas.{invertRect}
+use Rattle.canvas.specs.Call.{draw, putPixel, drawLine, drawRect, fillRect, invertRect, Outcome, call}
 use Rattle.images.specs.Areas.{copyArea}
 use Rattle.ovals.specs.Call.{drawArc, fillArc, drawRoundRect, fillRoundRect}
 use Rattle.cases.specs.Row.{rowOf, clip}
@@ -48,7 +47,7 @@ module _ (n : List ℕ) (v : Canvas) (c : Color) (k : Clip) (image b : List ℕ)
   unfolding drawnBy
   fill-is = refl
 
-  pub invert-is : drawnBy op.invert n v c k image b ≡ invertRect v (intAt n 0) (intAt n 1) (wordAt n 2) (wordAt n 3) k b
+  pub invert-is : drawnBy op.invert n v c k image b ≡ call v (invertRect (intAt n 0) (intAt n 1) (wordAt n 2) (wordAt n 3) k) b
   unfolding drawnBy
   invert-is = refl
 

@@ -6,8 +6,7 @@ use lib.Dec.{eqb}
 use Rattle.words.specs.declared.Color.{Color}
 use Rattle.pixels.specs.declared.Canvas.{Canvas}
 use Rattle.canvas.specs.declared.Clip.{Clip}
-use Rattle.canvas.specs.Call.{draw, putPixel, drawLine, drawRect, fillRect, Outcome, outcome, call}
-use Rattle.canvas.specs.Areas.{invertRect}
+use Rattle.canvas.specs.Call.{draw, putPixel, drawLine, drawRect, fillRect, invertRect, Outcome, outcome, call}
 use Rattle.images.specs.Areas.{copyArea}
 use Rattle.ovals.specs.Call.{drawArc, fillArc, drawRoundRect, fillRoundRect}
 use Rattle.cases.specs.Ops as op
@@ -36,5 +35,5 @@ drawnBy o n v c k image b =
     (cond (eqb o op.line) (call v (drawLine (intAt n 0) (intAt n 1) (intAt n 2) (intAt n 3) c k) b)
     (cond (eqb o op.rect) (call v (drawRect (intAt n 0) (intAt n 1) (wordAt n 2) (wordAt n 3) c k) b)
     (cond (eqb o op.fill) (call v (fillRect (intAt n 0) (intAt n 1) (wordAt n 2) (wordAt n 3) c k) b)
-    (cond (eqb o op.invert) (invertRect v (intAt n 0) (intAt n 1) (wordAt n 2) (wordAt n 3) k b)
+    (cond (eqb o op.invert) (call v (invertRect (intAt n 0) (intAt n 1) (wordAt n 2) (wordAt n 3) k) b)
     (roundBy o n v c k image b)))))

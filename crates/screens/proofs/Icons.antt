@@ -26,7 +26,7 @@ use Rattle.res.specs.Search.{firstIcon, iconPixels}
 use Rattle.res.proofs.Accepted.{stands, part-length}
 use Rattle.res.proofs.decode_res.Reads as decode-res
 use Rattle.res.proofs.icon_pixels.Reads as icon-pixels
-use Rattle.screens.proofs.Runs.{Made, made-is}
+use Rattle.screens.proofs.Called.{Made, made-is}
 
 -- An icon as a canvas: its format is RGB332, and a source's switch says nothing.
 abbrev pub asCanvas : Bool → Icon → Canvas

@@ -1,7 +1,6 @@
 // Inversion, area copy and images for C and Rust.
 ghost use mathlib.Core.Path.{_≡_};
-ghost use Rattle.canvas.specs.Areas.{invertRect};
-ghost use Rattle.canvas.specs.Call.{draw, call};
+ghost use Rattle.canvas.specs.Call.{invertRect, draw, call};
 ghost use Rattle.images.specs.Areas.{copyArea};
 ghost use Rattle.tuyrashka.specs.Exported.{canvasOf, sourceOf, clipOf, gives};
 use crate::records::canvas_of;
@@ -22,7 +21,7 @@ pub extern "C" fn tuyrashka_invert_rect(
 ) -> u32
     ensures { λ r. ⌜
         (r, (now (drawn .exit), now (bytes .exit)))
-        ≡ gives (invertRect (canvasOf (now (canvas .entry))) x y w h (clipOf (now (clip .entry))) (now (bytes .entry)))
+        ≡ gives (call (canvasOf (now (canvas .entry))) (invertRect x y w h (clipOf (now (clip .entry)))) (now (bytes .entry)))
         ⌝ }
 {
     let v = canvas_of(canvas);

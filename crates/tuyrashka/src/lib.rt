@@ -11,12 +11,18 @@ mod icon;
 mod records;
 mod rounds;
 
+pub use areas::tuyrashka_draw;
+pub use areas::tuyrashka_invert_rect;
 use canvas::Pixel;
 use records::canvas_of;
 use records::clip_of;
 use records::color_of;
 use records::give_clip;
 use records::give_drawn;
+pub use rounds::tuyrashka_draw_arc;
+pub use rounds::tuyrashka_draw_round_rect;
+pub use rounds::tuyrashka_fill_arc;
+pub use rounds::tuyrashka_fill_round_rect;
 
 #[no_mangle]
 pub extern "C" fn tuyrashka_put_pixel(

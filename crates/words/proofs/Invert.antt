@@ -1,11 +1,11 @@
--- Inversion is XOR with a mask of the format, and made twice it gives what reading sees of the word.
+-- The ink of inversion does what inversion does: it flips the bits of the format that hold colours.
 use mathlib.Core.Path.{_≡_, refl, sym, ap, ap₂, _∙_}
 use Prim.Native.Nat.{ℕ, _+_, _-_, _*_, _/_, _%_, _^_, _<_}
 use native.Mathlib.Omega.{arith}
 use native.Mathlib.Nat.{mod-lt, mod-eq-of-lt, div-add-mod'}
 use lib.Bits.{bitAnd, bitXor, and-mask, xor-zero-r, xor-block, xor-add-and}
 use Rattle.words.specs.Format.{Format, rgb332, rgb565, rgb8, argb, abgr, none, range}
-use Rattle.words.specs.Word.{fromColor, toColor, level5, level6, seen}
+use Rattle.words.specs.Word.{fromColor, toColor, level5, level6}
 use Rattle.words.specs.Ink.{inked}
 use Rattle.words.specs.Invert.{invertWord, invertInk}
 use Rattle.words.proofs.Laws.{keep-all}
@@ -86,25 +86,3 @@ invert-is rgb8 w l =
 invert-is argb w l = ap (λ (x : ℕ). bitXor x 16777215) (keep-all argb w l) ∙ xor-low w ∙ sym (invert-flips argb w l)
 invert-is abgr w l = ap (λ (x : ℕ). bitXor x 16777215) (keep-all abgr w l) ∙ xor-low w ∙ sym (invert-flips abgr w l)
 invert-is none w l = xor-zero-r (bitAnd w 4294967295) ∙ keep-all none w l ∙ omega (arith, invert-flips none w l)
-
-pub invert-keeps : (f : Format) (w : ℕ) → w < range f → invertWord f w < range f
-unfolding range flipped
-invert-keeps rgb332 w l = omega (arith, invert-flips rgb332 w l)
-invert-keeps rgb565 w l = omega (arith, invert-flips rgb565 w l)
-invert-keeps rgb8 w l = omega (arith, invert-flips rgb8 w l)
-invert-keeps argb w l = omega (arith, invert-flips argb w l)
-invert-keeps abgr w l = omega (arith, invert-flips abgr w l)
-invert-keeps none w l = omega (arith, invert-flips none w l)
-
-twice : (f : Format) (w : ℕ) → w < range f → flipped f (flipped f w) ≡ seen f w
-unfolding range flipped seen
-twice rgb332 w l = omega arith
-twice rgb565 w l = omega arith
-twice rgb8 w l = omega arith
-twice argb w l = omega arith
-twice abgr w l = omega arith
-twice none w l = omega arith
-
--- Made twice, it leaves what reading sees.
-pub invert-twice : (f : Format) (w : ℕ) → w < range f → invertWord f (invertWord f w) ≡ seen f w
-invert-twice f w l = invert-flips f (invertWord f w) (invert-keeps f w l) ∙ ap (flipped f) (invert-flips f w l) ∙ twice f w l

@@ -1,17 +1,16 @@
--- The laws of words, over the format: a colour's word fits, an ink does what a plot does, and plots with XOR on commute and settle
--- when made twice. A format enters by its range, by its words of colours, and by whether it keeps alpha.
+-- The laws of words, over the format: a colour's word fits, and an ink does what a plot does. A format enters by its range, by its words
+-- of colours, and by whether it keeps alpha.
 use mathlib.Core.Path.{_≡_, refl, sym, ap, _∙_}
 use mathlib.Core.Bool.{Bool, true, false, cond}
 use Prim.Native.Nat.{ℕ, _+_, _*_, _/_, _%_, _^_, _<_, _≤_}
 use native.Mathlib.Omega.{arith}
 use native.Mathlib.Nat.{zero-add, mod-lt}
-use lib.Bits.{bitAnd, bitXor, and-mask, and-zero-r, xor-zero-r, xor-block, xor-lt}
+use lib.Bits.{bitAnd, bitXor, and-mask, and-zero-r, xor-zero-r, xor-block}
 use lib.Dec.{eqb}
 use Rattle.words.specs.declared.Color.{Color}
 use Rattle.words.specs.Format.{Format, rgb332, rgb565, rgb8, argb, abgr, none, bytesPerPixel, range}
 use Rattle.words.specs.Word.{fromColor}
-use Rattle.words.specs.Ink.{keepsAlpha, bare, xorColor, plotWord, ink, inked, xorInk, plotInk, settles}
-use Rattle.words.proofs.Xor.{xor-swap, xor-back}
+use Rattle.words.specs.Ink.{keepsAlpha, bare, xorColor, plotWord, ink, inked, xorInk, plotInk}
 
 -- A colour whose channels are bytes.
 pub record Channels (c : Color) : Type 0 where
@@ -98,80 +97,3 @@ ink-is f true c w h l = by-alpha (eqb (c .a) 0)
     by-alpha : (z : Bool) → inked (cond z (ink 4294967295 0) (xorInk f c)) w ≡ cond z w (xorColor f w c)
     by-alpha true = xor-zero-r (bitAnd w 4294967295) ∙ keep-all f w l
     by-alpha false = by-kept (keepsAlpha f)
-
--- ---- a plot keeps to the range
-
-low-fits : (k w : ℕ) → k < 16777216 → bitXor (w % 16777216) k < 16777216
-low-fits k w l = xor-lt 24 (w % 16777216) k (mod-lt w (omega arith)) l
-
-xor-keeps : (f : Format) (c : Color) (w : ℕ) → Channels c → w < range f → xorColor f w c < range f
-unfolding xorColor keepsAlpha range
-xor-keeps rgb332 c w h l = xor-lt 8 w (fromColor rgb332 c) l (fits rgb332 c h)
-xor-keeps rgb565 c w h l = xor-lt 16 w (fromColor rgb565 c) l (fits rgb565 c h)
-xor-keeps rgb8 c w h l = xor-lt 32 w (fromColor rgb8 c) l (fits rgb8 c h)
-xor-keeps argb c w h l = omega (arith, low-fits (fromColor argb (bare c)) w (bare-fits argb c h))
-xor-keeps abgr c w h l = omega (arith, low-fits (fromColor abgr (bare c)) w (bare-fits abgr c h))
-xor-keeps none c w h l = xor-lt 0 w (fromColor none c) l (fits none c h)
-
-pub plot-keeps : (f : Format) (x : Bool) (c : Color) (w : ℕ) → Channels c → w < range f → plotWord f x c w < range f
-unfolding plotWord
-plot-keeps f false c w h l = fits f c h
-plot-keeps f true c w h l = by-alpha (eqb (c .a) 0)
-  where
-    by-alpha : (z : Bool) → cond z w (xorColor f w c) < range f
-    by-alpha true = l
-    by-alpha false = xor-keeps f c w h l
-
--- ---- order, and the same plot twice
-
-solid-low : (k w : ℕ) → k < 16777216 → solid k w % 16777216 ≡ bitXor (w % 16777216) k
-solid-low k w l = omega (arith, low-fits k w l)
-
-mixed-swap : (t : Bool) (i j k l w : ℕ) → i < 16777216 → k < 16777216 → mixed t i j (mixed t k l w) ≡ mixed t k l (mixed t i j w)
-mixed-swap false i j k l w hi hk = xor-swap w l j
-mixed-swap true i j k l w hi hk =
-    ap (λ (x : ℕ). 4278190080 + bitXor x i) (solid-low k w hk)
-    ∙ ap (λ (x : ℕ). 4278190080 + x) (xor-swap (w % 16777216) k i)
-    ∙ sym (ap (λ (x : ℕ). 4278190080 + bitXor x k) (solid-low i w hi))
-
-mixed-twice : (t : Bool) (j k w : ℕ) → j < 16777216 → mixed t j k (mixed t j k w) ≡ cond t (4278190080 + w % 16777216) w
-mixed-twice false j k w h = xor-back w k
-mixed-twice true j k w h =
-    ap (λ (x : ℕ). 4278190080 + bitXor x j) (solid-low j w h) ∙ ap (λ (x : ℕ). 4278190080 + x) (xor-back (w % 16777216) j)
-
--- What does nothing where a test holds.
-abbrev unless : Bool → (ℕ → ℕ) → ℕ → ℕ
-unless z g w = cond z w (g w)
-
-unless-swap : (y z : Bool) (g h : ℕ → ℕ) (w : ℕ) → g (h w) ≡ h (g w) → unless y g (unless z h w) ≡ unless z h (unless y g w)
-unless-swap true true g h w e = refl
-unless-swap true false g h w e = refl
-unless-swap false true g h w e = refl
-unless-swap false false g h w e = e
-
-unless-twice : (z : Bool) (g : ℕ → ℕ) (w v : ℕ) → g (g w) ≡ v → unless z g (unless z g w) ≡ cond z w v
-unless-twice true g w v e = refl
-unless-twice false g w v e = e
-
-pub plot-swap :
-    (f : Format) (c d : Color) (w : ℕ) → Channels c → Channels d →
-    plotWord f true c (plotWord f true d w) ≡ plotWord f true d (plotWord f true c w)
-unfolding plotWord xorColor
-plot-swap f c d w hc hd =
-    unless-swap (eqb (c .a) 0) (eqb (d .a) 0) (λ v. xorColor f v c) (λ v. xorColor f v d) w
-    (mixed-swap (keepsAlpha f) (fromColor f (bare c)) (fromColor f c) (fromColor f (bare d)) (fromColor f d) w (bare-fits f c hc) (bare-fits f d hd))
-
-pub plot-twice : (f : Format) (c : Color) (w : ℕ) → Channels c → plotWord f true c (plotWord f true c w) ≡ settles f c w
-unfolding plotWord xorColor settles
-plot-twice f c w h =
-    unless-twice (eqb (c .a) 0) (λ v. xorColor f v c) w (cond (keepsAlpha f) (4278190080 + w % 16777216) w)
-    (mixed-twice (keepsAlpha f) (fromColor f (bare c)) (fromColor f c) w (bare-fits f c h))
-
--- Where alpha is not kept, twice is as before.
-pub settles-back : (f : Format) (c : Color) (w : ℕ) → keepsAlpha f ≡ false → settles f c w ≡ w
-unfolding settles
-settles-back f c w e = rw e (by-alpha (eqb (c .a) 0))
-  where
-    by-alpha : (z : Bool) → cond z w w ≡ w
-    by-alpha true = refl
-    by-alpha false = refl

@@ -3,6 +3,7 @@ pub mod Either
 pub mod Formats
 pub mod Invert
 pub mod Laws
+pub mod Stamps
 pub mod Reading
 pub mod Table
 pub mod Xor

@@ -1,6 +1,6 @@
 -- What a plot of a colour makes of the word stored.
 use mathlib.Core.Bool.{Bool, true, false, cond}
-use Prim.Native.Nat.{ℕ, _+_, _%_}
+use Prim.Native.Nat.{ℕ, _+_, _*_, _%_}
 use lib.Dec.{eqb}
 use lib.Bits.{bitAnd, bitXor}
 use Rattle.words.specs.declared.Color.{Color}
@@ -45,6 +45,7 @@ unfoldable pub plotInk : Format → Bool → Color → Ink
 plotInk f false c = ink 0 (fromColor f c)
 plotInk f true c = cond (eqb (c .a) 0) (ink 4294967295 0) (xorInk f c)
 
--- What the same plot with XOR on leaves when it is made twice: alpha, where it is kept and was not 0, stays 255.
-unfoldable pub settles : Format → Color → ℕ → ℕ
-settles f c w = cond (eqb (c .a) 0) w (cond (keepsAlpha f) (4278190080 + w % 16777216) w)
+-- What two passes leave of a word where something stays of them: a top byte of 255 where it is alpha, and of 0 where it is not. Words of
+-- fewer bytes have none, and are as they were.
+unfoldable pub settled : Format → ℕ → ℕ
+settled f w = cond (keepsAlpha f) 255 0 * 16777216 + w % 16777216

@@ -8,8 +8,9 @@ use lib.ListN.{length}
 use Rattle.words.specs.declared.Color.{Color}
 use Rattle.words.specs.declared.Ink.{Ink}
 use Rattle.words.specs.Format.{range}
-use Rattle.words.specs.Ink.{plotWord, plotInk, inked}
-use Rattle.words.proofs.Laws.{Channels, ink-is, plot-keeps}
+use Rattle.words.specs.Ink.{plotInk, inked}
+use Rattle.words.proofs.Laws.{Channels, ink-is}
+use Rattle.words.proofs.Stamps.{plot-keeps}
 use Rattle.pixels.specs.declared.Canvas.{Canvas}
 use Rattle.canvas.specs.declared.Clip.{Clip}
 use Rattle.canvas.specs.declared.Drawn.the-variants.{Refused, Done}
@@ -21,20 +22,20 @@ use Rattle.canvas.specs.declared.faults.Start.{Start}
 use Rattle.canvas.specs.declared.faults.Start.the-variants as start
 use Rattle.pixels.specs.Bytes.{form, Sized}
 use Rattle.canvas.specs.Faults.{orElse, verdict, asSource}
-use Rattle.canvas.specs.Plot.{Plot, plot, Point, inks, tint, dip, hits}
+use Rattle.canvas.specs.Plot.{Plot, plot, Point, inks, Dye, plain, tint, dip, hits}
 use Rattle.pixels.specs.Hits.{paint}
-use Rattle.canvas.specs.Call.{outcome, statusOf, countOf, leaves, drawing}
+use Rattle.canvas.specs.Call.{brush, outcome, statusOf, countOf, leaves, drawing}
 use Rattle.canvas.specs.Start.{started}
 use Rattle.canvas.specs.Walk.{Work, work, Keeps, Did}
 use Rattle.pixels.proofs.bytes.Cells.{Bytes}
 use Rattle.canvas.proofs.plot.Paints.{drawn-is, drawn-ink}
 use Rattle.canvas.proofs.faults.Verdicts.{both-sound, sized}
 
--- points of one colour
-pub dip-tint : (g : Color → ℕ → ℕ) (c : Color) (ps : List Point) → dip g (tint c ps) ≡ inks (g c) ps
+-- points in one dye
+pub dip-tint : (g : Dye → ℕ → ℕ) (d : Dye) (ps : List Point) → dip g (tint d ps) ≡ inks (g d) ps
 unfolding dip tint inks
-dip-tint g c [] = refl
-dip-tint g c (p ∷ ps) = ap (λ (l : List Plot). plot (g c) (p .x) (p .y) ∷ l) (dip-tint g c ps)
+dip-tint g d [] = refl
+dip-tint g d (p ∷ ps) = ap (λ (l : List Plot). plot (g d) (p .x) (p .y) ∷ l) (dip-tint g d ps)
 
 -- the masks of a colour's plot keep to the word's range
 pub ink-keeps : (v : Canvas) (color : Color) (i : Ink) → Channels color → i ≡ plotInk (form v) (v .xor) color → Keeps v i
@@ -81,14 +82,12 @@ pub did-ink : {v : Canvas} {c : Clip} (f g : ℕ → ℕ) (ps : List Point) {w w
     → Did v c (inks f ps) w w′ → Did v c (inks g ps) w w′
 did-ink {v} {c} f g ps {w} o k d = record { same = d .same ∙ drawn-ink v c f g k ps w o }
 
--- the code draws with the masks of an ink; the rules speak of the colour
-pub draws : (v : Canvas) (b : List ℕ) (c : Clip) (color : Color) (ps : List Point) (i : Ink) (a : Verdict) (t₀ t : Tally) (b′ : List ℕ) → a ≡ Sound → Bytes b → Channels color
-    → i ≡ plotInk (form v) (v .xor) color → t₀ .landed ≡ 0 → Did v c (inks (inked i) ps) (work b t₀) (work b′ t)
-    → leaves (Done t) b′ ≡ drawing a v c (dip (plotWord (form v) (v .xor)) (tint color ps)) b
-draws v b c color ps i a t₀ t b′ h o k m z w =
-    let f : ℕ → ℕ = plotWord (form v) (v .xor) color in
-    rw (dip-tint (plotWord (form v) (v .xor)) color ps)
-    (finishes v b c (inks f ps) a t₀ t b′ h z (did-ink (inked i) f ps o (λ u l. rw m (ink-is (form v) (v .xor) color u k l)) w))
+-- the code draws with the masks of an ink; the rules speak of the dye
+pub draws : (v : Canvas) (b : List ℕ) (c : Clip) (d : Dye) (ps : List Point) (i : Ink) (a : Verdict) (t : Tally) (b′ : List ℕ) → a ≡ Sound → Bytes b
+    → ((u : ℕ) → u < range (form v) → inked i u ≡ brush v d u) → Did v c (inks (inked i) ps) (work b (record { landed = 0 })) (work b′ t)
+    → leaves (Done t) b′ ≡ drawing a v c (dip (brush v) (tint d ps)) b
+draws v b c d ps i a t b′ h o k w =
+    rw (dip-tint (brush v) d ps) (finishes v b c (inks (brush v d) ps) a (record { landed = 0 }) t b′ h refl (did-ink (inked i) (brush v d) ps o k w))
 
 -- ---- what the start of a call of one colour says
 
@@ -125,5 +124,6 @@ module _ (v : Canvas) (b : List ℕ) (own : Verdict) (color : Color) (o : Verdic
     start-keeps k = ink-keeps v color i k (with-is .1)
 
     pub start-draws : (c : Clip) (ps : List Point) (t : Tally) (b′ : List ℕ) → Bytes b → Channels color → Did v c (inks (inked i) ps) (work b (record { landed = 0 })) (work b′ t)
-        → leaves (Done t) b′ ≡ drawing (orElse (verdict v (length b)) own) v c (dip (plotWord (form v) (v .xor)) (tint color ps)) b
-    start-draws c ps t b′ q k w = draws v b c color ps i (orElse (verdict v (length b)) own) (record { landed = 0 }) t b′ (with-is .0) q k (with-is .1) refl w
+        → leaves (Done t) b′ ≡ drawing (orElse (verdict v (length b)) own) v c (dip (brush v) (tint (plain color) ps)) b
+    start-draws c ps t b′ q k w =
+        draws v b c (plain color) ps i (orElse (verdict v (length b)) own) t b′ (with-is .0) q (λ u l. rw (with-is .1) (ink-is (form v) (v .xor) color u k l)) w

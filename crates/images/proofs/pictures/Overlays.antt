@@ -16,7 +16,7 @@ use Rattle.blending.proofs.Laws.{opaque-stores}
 use Rattle.blending.proofs.Runs.{argb-at, argb-length, blended-at, blended-length}
 use Rattle.pixels.specs.declared.Canvas.{Canvas}
 use Rattle.pixels.specs.Bytes.{form, loadAt, storeAt}
-use Rattle.canvas.specs.Plot.{Plot, plot, Dot, dip}
+use Rattle.canvas.specs.Plot.{Plot, plot, Dye, Dot, dip}
 use Rattle.pixels.specs.Hits.{Hit, touch, paint}
 use Rattle.pixels.specs.Rows.{run, mark, marks, field, laid}
 use Rattle.pixels.proofs.chunks.Chunks.{Taken}
@@ -145,25 +145,26 @@ row-over v s image b b′ x y0 sx sy n y l e = e ∙ ap (λ (hs : List Hit). pai
 
 -- ---- what the definition plots
 
-dip-append : (g : Color → ℕ → ℕ) (ds es : List Dot) → dip g (ds ++ es) ≡ dip g ds ++ dip g es
+dip-append : (g : Dye → ℕ → ℕ) (ds es : List Dot) → dip g (ds ++ es) ≡ dip g ds ++ dip g es
 unfolding dip
 dip-append g [] es = refl
-dip-append g (d ∷ ds) es = ap (λ (l : List Plot). plot (g (d .color)) (d .x) (d .y) ∷ l) (dip-append g ds es)
+dip-append g (d ∷ ds) es = ap (λ (l : List Plot). plot (g (d .dye)) (d .x) (d .y) ∷ l) (dip-append g ds es)
 
-dip-each : (g : Color → ℕ → ℕ) (h : ℕ → List Dot) (xs : List ℕ) → dip g (flatMap h xs) ≡ flatMap (λ x. dip g (h x)) xs
+dip-each : (g : Dye → ℕ → ℕ) (h : ℕ → List Dot) (xs : List ℕ) → dip g (flatMap h xs) ≡ flatMap (λ x. dip g (h x)) xs
 unfolding flatMap dip
 dip-each g h [] = refl
 dip-each g h (x ∷ xs) = dip-append g (h x) (flatMap h xs) ∙ ap (λ (l : List Plot). dip g (h x) ++ l) (dip-each g h xs)
 
-pub picture-spots : (g : Color → ℕ → ℕ) (c : ℕ → ℕ → Color) (xs ys : List ℕ) → dip g (picture c xs ys) ≡ spots (λ i j. g (c i j)) xs ys
+pub picture-spots : (g : Dye → ℕ → ℕ) (d : ℕ → ℕ → Dye) (xs ys : List ℕ) → dip g (picture d xs ys) ≡ spots (λ i j. g (d i j)) xs ys
 unfolding picture spots dip
-picture-spots g c xs ys = dip-each g _ ys ∙ each-same _ _ ys (λ j. dip-each g _ xs)
+picture-spots g d xs ys = dip-each g _ ys ∙ each-same _ _ ys (λ j. dip-each g _ xs)
 
 pub draws-over : (v s : Canvas) (image : List ℕ) (p q u t x0 x1 y0 y1 m n : ℕ) → Sourced p u m x0 x1 → Sourced q t n y0 y1
     → field (λ i j. blendWord (form v) (v .xor) (sourceColor s image (lowered p) (lowered q) (lowered u) (lowered t) i j)) (run x0 (x1 - x0)) (run y0 (y1 - y0))
     ≡ field (overlaid v s image x0 y0 (x0 + u - p) (y0 + t - q)) (run x0 (x1 - x0)) (run y0 (y1 - y0))
 draws-over v s image p q u t x0 x1 y0 y1 m n sx sy =
-    field-alike (λ i j. blendWord (form v) (v .xor) (sourceColor s image (lowered p) (lowered q) (lowered u) (lowered t) i j)) (overlaid v s image x0 y0 (x0 + u - p) (y0 + t - q)) x0 (x1 - x0) y0 (y1 - y0) one
+    field-alike (λ i j. blendWord (form v) (v .xor) (sourceColor s image (lowered p) (lowered q) (lowered u) (lowered t) i j))
+    (overlaid v s image x0 y0 (x0 + u - p) (y0 + t - q)) x0 (x1 - x0) y0 (y1 - y0) one
   where
     one : (i j : ℕ) → x0 ≤ i → i < x0 + (x1 - x0) → y0 ≤ j → j < y0 + (y1 - y0)
         → blendWord (form v) (v .xor) (sourceColor s image (lowered p) (lowered q) (lowered u) (lowered t) i j) ≡ overlaid v s image x0 y0 (x0 + u - p) (y0 + t - q) i j

@@ -1,15 +1,15 @@
 -- A refusal is the first fault; else the fill's pixels are inked with the format's inversion.
 use mathlib.Core.Path.{refl, sym, _∙_}
-use Rattle.words.specs.Ink.{inked}
-use Rattle.words.specs.Invert.{invertWord}
 use Rattle.words.proofs.Invert.{invert-is}
 use Rattle.pixels.specs.Bytes.{form}
-use Rattle.canvas.specs.Plot.{inks}
+use Rattle.canvas.specs.declared.faults.Verdict.the-variants.{Sound}
+use Rattle.canvas.specs.Plot.{inverse}
 use Rattle.canvas.specs.Boxes.{fill}
-use Rattle.canvas.specs.Areas.{invertRect}
+use Rattle.canvas.specs.Call.{dots}
+use Rattle.canvas.proofs.faults.Verdicts.{or-faulty, or-sound}
 use Rattle.canvas.proofs.span.Lifts.{lift-below, lowers}
 use Rattle.canvas.proofs.plot.Draws.{ready-few}
-use Rattle.canvas.proofs.plot.Answers.{declines, accepts, finishes, did-ink}
+use Rattle.canvas.proofs.plot.Answers.{declines, accepts, draws}
 use Rattle.canvas.proofs.boxes.Boxes.{fill-le, inks-few}
 use borrow.Author.Needs.{needs}
 use Rattle.canvas.proofs.areas.invert_rect.Statement.{statement}
@@ -34,18 +34,42 @@ lift-requires-2 : tie.Need-lift-requires-2
 lift-requires-2 c κs = search needs
 
 fill-in-requires : tie.Need-fill-in-requires
-fill-in-requires c κs = let s = accepts (c .before .before .before .before .before .before .before .before .args .canvas) (c .before .before .before .before .before .before .before .before .args .bytes .now) _ (c .before .before .before .before .before .before .judge .ensures) (c .before .before .before .before .enum-told .given .1) in (ready-few s refl (inks-few _ _ (fill-le (c .before .before .before .before .before .before .before .before .args .canvas) _ _ _ _ (s .wide) (s .high))), (lift-below (c .before .before .before .before .before .before .before .before .args .x) _ (c .before .before .before .before .before .before .before .before .fits .x) (c .before .before .lift .ensures), lift-below (c .before .before .before .before .before .before .before .before .args .y) _ (c .before .before .before .before .before .before .before .before .fits .y) (c .before .lift2 .ensures)))
+fill-in-requires c κs =
+    let told = c .before .before .before .before in
+    let judged = told .before .before in
+    let start = judged .before .before in
+    let a = start .args in
+    let f = start .fits in
+    let s = accepts (a .canvas) (a .bytes .now) _ (judged .judge .ensures) (told .enum-told .given .1) in (
+      ready-few s refl (inks-few _ _ (fill-le (a .canvas) _ _ _ _ (s .wide) (s .high))),
+      (lift-below (a .x) _ (f .x) (c .before .before .lift .ensures), lift-below (a .y) _ (f .y) (c .before .lift2 .ensures)),
+    )
 
 returns : tie.Need-returns
-unfolding invertRect
-returns c = declines (c .before .before .before .before .before .args .canvas) (c .before .before .before .before .before .args .bytes .now) _ _ _ _ (sym (c .before .before .before .judge .ensures) ∙ c .before .r .given .1)
+returns c =
+    let judged = c .before .before .before in
+    let a = judged .before .before .args in
+    let e = sym (judged .judge .ensures) ∙ c .before .r .given .1 in
+    declines (a .canvas) (a .bytes .now) _ _ _ _ (sym (or-faulty _ Sound _ e) ∙ e)
 
 same-length : tie.Need-same-length
 same-length c = search needs
 
 returns-2 : tie.Need-returns-2
-unfolding invertRect
-returns-2 c = finishes (c .before .before .before .before .before .before .before .before .before .before .before .args .canvas) (c .before .before .before .before .before .before .before .before .before .before .before .args .bytes .now) (c .before .before .before .before .before .before .before .before .before .before .before .args .clip) (inks (invertWord (form (c .before .before .before .before .before .before .before .before .before .before .before .args .canvas))) (fill (c .before .before .before .before .before .before .before .before .before .before .before .args .canvas) (c .before .before .before .before .before .before .before .before .before .before .before .args .x) (c .before .before .before .before .before .before .before .before .before .before .before .args .y) (c .before .before .before .before .before .before .before .before .before .before .before .args .w) (c .before .before .before .before .before .before .before .before .before .before .before .args .h))) _ _ _ _ (sym (c .before .before .before .before .before .before .before .before .before .judge .ensures) ∙ c .before .before .before .before .before .before .before .enum-told .given .1) refl (did-ink (inked (c .before .before .before .before .before .before .invert-ink .result)) (invertWord (form (c .before .before .before .before .before .before .before .before .before .before .before .args .canvas))) (fill (c .before .before .before .before .before .before .before .before .before .before .before .args .canvas) (c .before .before .before .before .before .before .before .before .before .before .before .args .x) (c .before .before .before .before .before .before .before .before .before .before .before .args .y) (c .before .before .before .before .before .before .before .before .before .before .before .args .w) (c .before .before .before .before .before .before .before .before .before .before .before .args .h)) (record { byte = λ i. c .before .before .before .before .before .before .before .before .before .before .slice-known .given i .fits }) (λ u l. rw (c .before .before .before .before .before .before .invert-ink .ensures) (invert-is (form (c .before .before .before .before .before .before .before .before .before .before .before .args .canvas)) u l)) (rw (lowers (c .before .before .before .before .before .before .before .before .before .before .before .args .x) _ (c .before .before .before .before .before .before .before .before .before .before .before .fits .x) (c .before .before .before .before .before .lift .ensures), lowers (c .before .before .before .before .before .before .before .before .before .before .before .args .y) _ (c .before .before .before .before .before .before .before .before .before .before .before .fits .y) (c .before .before .before .before .lift2 .ensures)) at (c .before .before .fill-in .ensures)))
+unfolding dots
+returns-2 c =
+    let lift = c .before .before .before .before .before in
+    let ink = lift .before in
+    let told = ink .before in
+    let judged = told .before .before in
+    let start = judged .before .before in
+    let a = start .args in
+    let f = start .fits in
+    draws (a .canvas) (a .bytes .now) (a .clip) inverse (fill (a .canvas) (a .x) (a .y) (a .w) (a .h)) (ink .invert-ink .result) _ _ _
+    (sym (or-sound _ Sound (sym (judged .judge .ensures) ∙ told .enum-told .given .1)))
+    (record { byte = λ i. judged .before .slice-known .given i .fits })
+    (λ u l. rw (ink .invert-ink .ensures) (invert-is (form (a .canvas)) u l))
+    (rw (lowers (a .x) _ (f .x) (lift .lift .ensures), lowers (a .y) _ (f .y) (c .before .before .before .before .lift2 .ensures)) at (c .before .before .fill-in .ensures))
 
 pub invert-rect-spec : {M : Type 1} → statement M
 invert-rect-spec =

@@ -3,11 +3,12 @@ use native.Mathlib.Nat.{zero-add}
 use mathlib.Core.Path.{refl, sym, ap, _∙_}
 use mathlib.Core.List.{List}
 use Prim.Native.Nat.{ℕ}
-use Rattle.blending.specs.Blend.{blendWord}
-use Rattle.pixels.specs.Bytes.{form}
+use mir.Syntax.{w32}
+use mir.Val.{SFits}
 use Rattle.pixels.specs.Hits.{Hit, paint}
 use Rattle.canvas.specs.Boxes.{spots, shown}
-use Rattle.canvas.specs.Call.{sourceColor, dots}
+use Rattle.canvas.specs.Plot.{Dye, over}
+use Rattle.canvas.specs.Call.{sourceColor, dots, brush}
 use Rattle.canvas.specs.Walk.{lowered}
 use Rattle.canvas.proofs.span.Lifts.{lift-lt, lowers}
 use Rattle.canvas.proofs.plot.Answers.{declines, first-of, first-sized, first-source, finishes}
@@ -46,23 +47,116 @@ lift-requires-4 : tie.Need-lift-requires-4
 lift-requires-4 c κs = search needs
 
 shown-in-requires : tie.Need-shown-in-requires
-shown-in-requires c κs = ((first-sized (c .before .before .before .before .before .before .before .before .before .before .before .before .args .canvas) (c .before .before .before .before .before .before .before .before .before .before .before .before .args .bytes .now) (c .before .before .before .before .before .before .before .before .before .before .before .before .args .source) (c .before .before .before .before .before .before .before .before .before .before .before .before .args .image .now) _ _ _ (c .before .before .before .before .before .before .before .or-else .ensures) (c .before .before .before .before .before .before .before .before .before .judge .ensures) (c .before .before .before .before .before .before .before .before .judge-source .ensures) (c .before .before .before .before .before .enum-told .given .1)) .wide, (lift-lt (c .before .before .before .before .before .before .before .before .before .before .before .before .args .dx) _ (c .before .before .before .before .before .before .before .before .before .before .before .before .fits .dx) (c .before .before .before .before .lift .ensures), lift-lt (c .before .before .before .before .before .before .before .before .before .before .before .before .args .sx) _ (c .before .before .before .before .before .before .before .before .before .before .before .before .fits .sx) (c .before .before .lift3 .ensures)))
+shown-in-requires c κs =
+    let sx = c .before .before in
+    let dx = sx .before .before in
+    let sound = dx .before in
+    let first = sound .before .before in
+    let source = first .before in
+    let canvas = source .before in
+    let start = canvas .before .before .before in
+    let a = start .args in
+    let f = start .fits in
+    let s = first-sized (a .canvas) (a .bytes .now) (a .source) (a .image .now) _ _ _
+    (first .or-else .ensures) (canvas .judge .ensures) (source .judge-source .ensures) (sound .enum-told .given .1) in
+    (s .wide, (lift-lt (a .dx) _ (f .dx) (dx .lift .ensures), lift-lt (a .sx) _ (f .sx) (sx .lift3 .ensures)))
 
 shown-in-requires-2 : tie.Need-shown-in-requires-2
-shown-in-requires-2 c κs = ((first-sized (c .before .before .before .before .before .before .before .before .before .before .before .before .before .before .args .canvas) (c .before .before .before .before .before .before .before .before .before .before .before .before .before .before .args .bytes .now) (c .before .before .before .before .before .before .before .before .before .before .before .before .before .before .args .source) (c .before .before .before .before .before .before .before .before .before .before .before .before .before .before .args .image .now) _ _ _ (c .before .before .before .before .before .before .before .before .before .or-else .ensures) (c .before .before .before .before .before .before .before .before .before .before .before .judge .ensures) (c .before .before .before .before .before .before .before .before .before .before .judge-source .ensures) (c .before .before .before .before .before .before .before .enum-told .given .1)) .high, (lift-lt (c .before .before .before .before .before .before .before .before .before .before .before .before .before .before .args .dy) _ (c .before .before .before .before .before .before .before .before .before .before .before .before .before .before .fits .dy) (c .before .before .before .before .before .lift2 .ensures), lift-lt (c .before .before .before .before .before .before .before .before .before .before .before .before .before .before .args .sy) _ (c .before .before .before .before .before .before .before .before .before .before .before .before .before .before .fits .sy) (c .before .before .before .lift4 .ensures)))
+shown-in-requires-2 c κs =
+    let sy = c .before .before .before in
+    let dy = sy .before .before in
+    let sound = dy .before .before in
+    let first = sound .before .before in
+    let source = first .before in
+    let canvas = source .before in
+    let start = canvas .before .before .before in
+    let a = start .args in
+    let f = start .fits in
+    let s = first-sized (a .canvas) (a .bytes .now) (a .source) (a .image .now) _ _ _
+    (first .or-else .ensures) (canvas .judge .ensures) (source .judge-source .ensures) (sound .enum-told .given .1) in
+    (s .high, (lift-lt (a .dy) _ (f .dy) (dy .lift2 .ensures), lift-lt (a .sy) _ (f .sy) (sy .lift4 .ensures)))
 
 draw-in-requires : tie.Need-draw-in-requires
-draw-in-requires c κs = ((first-sized (c .before .before .before .before .before .before .before .before .before .before .before .before .before .before .before .before .args .canvas) (c .before .before .before .before .before .before .before .before .before .before .before .before .before .before .before .before .args .bytes .now) (c .before .before .before .before .before .before .before .before .before .before .before .before .before .before .before .before .args .source) (c .before .before .before .before .before .before .before .before .before .before .before .before .before .before .before .before .args .image .now) _ _ _ (c .before .before .before .before .before .before .before .before .before .before .before .or-else .ensures) (c .before .before .before .before .before .before .before .before .before .before .before .before .before .judge .ensures) (c .before .before .before .before .before .before .before .before .before .before .before .before .judge-source .ensures) (c .before .before .before .before .before .before .before .before .before .enum-told .given .1)), ((first-source (c .before .before .before .before .before .before .before .before .before .before .before .before .before .before .before .before .args .canvas) (c .before .before .before .before .before .before .before .before .before .before .before .before .before .before .before .before .args .bytes .now) (c .before .before .before .before .before .before .before .before .before .before .before .before .before .before .before .before .args .source) (c .before .before .before .before .before .before .before .before .before .before .before .before .before .before .before .before .args .image .now) _ _ _ (c .before .before .before .before .before .before .before .before .before .before .before .or-else .ensures) (c .before .before .before .before .before .before .before .before .before .before .before .before .before .judge .ensures) (c .before .before .before .before .before .before .before .before .before .before .before .before .judge-source .ensures) (c .before .before .before .before .before .before .before .before .before .enum-told .given .1)), ((shown-is _ _ _ _ (c .before .before .before .before .before .before .before .before .before .before .before .before .before .before .before .before .args .clip .x) _ _ _ (record { sfits = c .before .before .before .before .struct-told .given .0 .1 }) (c .before .before .before .shown-in .ensures)) .ordered, ((shown-is _ _ _ _ (c .before .before .before .before .before .before .before .before .before .before .before .before .before .before .before .before .args .clip .y) _ _ _ (record { sfits = c .before .before .before .before .struct-told .given .1 .0 .1 }) (c .before .shown-in2 .ensures)) .ordered, ((shown-is _ _ _ _ (c .before .before .before .before .before .before .before .before .before .before .before .before .before .before .before .before .args .clip .x) _ _ _ (record { sfits = c .before .before .before .before .struct-told .given .0 .1 }) (c .before .before .before .shown-in .ensures)) .held, ((shown-is _ _ _ _ (c .before .before .before .before .before .before .before .before .before .before .before .before .before .before .before .before .args .clip .y) _ _ _ (record { sfits = c .before .before .before .before .struct-told .given .1 .0 .1 }) (c .before .shown-in2 .ensures)) .held, ((shown-is _ _ _ _ (c .before .before .before .before .before .before .before .before .before .before .before .before .before .before .before .before .args .clip .x) _ _ _ (record { sfits = c .before .before .before .before .struct-told .given .0 .1 }) (c .before .before .before .shown-in .ensures)) .sourced, ((shown-is _ _ _ _ (c .before .before .before .before .before .before .before .before .before .before .before .before .before .before .before .before .args .clip .y) _ _ _ (record { sfits = c .before .before .before .before .struct-told .given .1 .0 .1 }) (c .before .shown-in2 .ensures)) .sourced, (lift-lt (c .before .before .before .before .before .before .before .before .before .before .before .before .before .before .before .before .args .sx) _ (c .before .before .before .before .before .before .before .before .before .before .before .before .before .before .before .before .fits .sx) (c .before .before .before .before .before .before .lift3 .ensures), lift-lt (c .before .before .before .before .before .before .before .before .before .before .before .before .before .before .before .before .args .sy) _ (c .before .before .before .before .before .before .before .before .before .before .before .before .before .before .before .before .fits .sy) (c .before .before .before .before .before .lift4 .ensures))))))))))
+draw-in-requires c κs =
+    let down = c .before in
+    let across = down .before .before in
+    let clip = across .before in
+    let sy = clip .before in
+    let sx = sy .before in
+    let sound = sx .before .before .before in
+    let first = sound .before .before in
+    let source = first .before in
+    let canvas = source .before in
+    let start = canvas .before .before .before in
+    let a = start .args in
+    let f = start .fits in
+    let columns = shown-is _ _ _ _ (a .clip .x) _ _ _ (record { sfits = clip .struct-told .given .0 .1 }) (across .shown-in .ensures) in
+    let rows = shown-is _ _ _ _ (a .clip .y) _ _ _ (record { sfits = clip .struct-told .given .1 .0 .1 }) (down .shown-in2 .ensures) in
+    let s = first-sized (a .canvas) (a .bytes .now) (a .source) (a .image .now) _ _ _
+    (first .or-else .ensures) (canvas .judge .ensures) (source .judge-source .ensures) (sound .enum-told .given .1) in
+    let t = first-source (a .canvas) (a .bytes .now) (a .source) (a .image .now) _ _ _
+    (first .or-else .ensures) (canvas .judge .ensures) (source .judge-source .ensures) (sound .enum-told .given .1) in
+    let bx = lift-lt (a .sx) _ (f .sx) (sx .lift3 .ensures) in
+    let by = lift-lt (a .sy) _ (f .sy) (sy .lift4 .ensures) in
+    (s, (t, (columns .ordered, (rows .ordered, (columns .held, (rows .held, (columns .sourced, (rows .sourced, (bx, by)))))))))
 
 returns : tie.Need-returns
-returns c = declines (c .before .before .before .before .before .before .before .before .args .canvas) (c .before .before .before .before .before .before .before .before .args .bytes .now) _ _ _ _ (sym (first-of (c .before .before .before .before .before .before .before .before .args .canvas) (c .before .before .before .before .before .before .before .before .args .bytes .now) (c .before .before .before .before .before .before .before .before .args .source) (c .before .before .before .before .before .before .before .before .args .image .now) _ _ _ (c .before .before .before .or-else .ensures) (c .before .before .before .before .before .judge .ensures) (c .before .before .before .before .judge-source .ensures)) ∙ c .before .r .given .1)
+returns c =
+    let first = c .before .before .before in
+    let source = first .before in
+    let canvas = source .before in
+    let a = canvas .before .before .before .args in
+    declines (a .canvas) (a .bytes .now) _ _ _ _
+    (sym (first-of (a .canvas) (a .bytes .now) (a .source) (a .image .now) _ _ _ (first .or-else .ensures) (canvas .judge .ensures) (source .judge-source .ensures)) ∙ c .before .r .given .1)
 
 same-length : tie.Need-same-length
 same-length c = search needs
 
 returns-2 : tie.Need-returns-2
 unfolding dots
-returns-2 c = rw (picture-spots (blendWord (form (c .before .before .before .before .before .before .before .before .before .before .before .before .before .before .before .before .before .before .before .args .canvas)) (c .before .before .before .before .before .before .before .before .before .before .before .before .before .before .before .before .before .before .before .args .canvas .xor)) (sourceColor (c .before .before .before .before .before .before .before .before .before .before .before .before .before .before .before .before .before .before .before .args .source) (c .before .before .before .before .before .before .before .before .before .before .before .before .before .before .before .before .before .before .before .args .image .now) (c .before .before .before .before .before .before .before .before .before .before .before .before .before .before .before .before .before .before .before .args .dx) (c .before .before .before .before .before .before .before .before .before .before .before .before .before .before .before .before .before .before .before .args .dy) (c .before .before .before .before .before .before .before .before .before .before .before .before .before .before .before .before .before .before .before .args .sx) (c .before .before .before .before .before .before .before .before .before .before .before .before .before .before .before .before .before .before .before .args .sy)) (shown (c .before .before .before .before .before .before .before .before .before .before .before .before .before .before .before .before .before .before .before .args .dx) (c .before .before .before .before .before .before .before .before .before .before .before .before .before .before .before .before .before .before .before .args .sx) (c .before .before .before .before .before .before .before .before .before .before .before .before .before .before .before .before .before .before .before .args .w) (c .before .before .before .before .before .before .before .before .before .before .before .before .before .before .before .before .before .before .before .args .source .width) (c .before .before .before .before .before .before .before .before .before .before .before .before .before .before .before .before .before .before .before .args .canvas .width)) (shown (c .before .before .before .before .before .before .before .before .before .before .before .before .before .before .before .before .before .before .before .args .dy) (c .before .before .before .before .before .before .before .before .before .before .before .before .before .before .before .before .before .before .before .args .sy) (c .before .before .before .before .before .before .before .before .before .before .before .before .before .before .before .before .before .before .before .args .h) (c .before .before .before .before .before .before .before .before .before .before .before .before .before .before .before .before .before .before .before .args .source .height) (c .before .before .before .before .before .before .before .before .before .before .before .before .before .before .before .before .before .before .before .args .canvas .height))) (finishes (c .before .before .before .before .before .before .before .before .before .before .before .before .before .before .before .before .before .before .before .args .canvas) (c .before .before .before .before .before .before .before .before .before .before .before .before .before .before .before .before .before .before .before .args .bytes .now) (c .before .before .before .before .before .before .before .before .before .before .before .before .before .before .before .before .before .before .before .args .clip) (spots (λ i j. blendWord (form (c .before .before .before .before .before .before .before .before .before .before .before .before .before .before .before .before .before .before .before .args .canvas)) (c .before .before .before .before .before .before .before .before .before .before .before .before .before .before .before .before .before .before .before .args .canvas .xor) (sourceColor (c .before .before .before .before .before .before .before .before .before .before .before .before .before .before .before .before .before .before .before .args .source) (c .before .before .before .before .before .before .before .before .before .before .before .before .before .before .before .before .before .before .before .args .image .now) (c .before .before .before .before .before .before .before .before .before .before .before .before .before .before .before .before .before .before .before .args .dx) (c .before .before .before .before .before .before .before .before .before .before .before .before .before .before .before .before .before .before .before .args .dy) (c .before .before .before .before .before .before .before .before .before .before .before .before .before .before .before .before .before .before .before .args .sx) (c .before .before .before .before .before .before .before .before .before .before .before .before .before .before .before .before .before .before .before .args .sy) i j)) (shown (c .before .before .before .before .before .before .before .before .before .before .before .before .before .before .before .before .before .before .before .args .dx) (c .before .before .before .before .before .before .before .before .before .before .before .before .before .before .before .before .before .before .before .args .sx) (c .before .before .before .before .before .before .before .before .before .before .before .before .before .before .before .before .before .before .before .args .w) (c .before .before .before .before .before .before .before .before .before .before .before .before .before .before .before .before .before .before .before .args .source .width) (c .before .before .before .before .before .before .before .before .before .before .before .before .before .before .before .before .before .before .before .args .canvas .width)) (shown (c .before .before .before .before .before .before .before .before .before .before .before .before .before .before .before .before .before .before .before .args .dy) (c .before .before .before .before .before .before .before .before .before .before .before .before .before .before .before .before .before .before .before .args .sy) (c .before .before .before .before .before .before .before .before .before .before .before .before .before .before .before .before .before .before .before .args .h) (c .before .before .before .before .before .before .before .before .before .before .before .before .before .before .before .before .before .before .before .args .source .height) (c .before .before .before .before .before .before .before .before .before .before .before .before .before .before .before .before .before .before .before .args .canvas .height))) _ (record { landed = 0 }) _ _ (sym (first-of (c .before .before .before .before .before .before .before .before .before .before .before .before .before .before .before .before .before .before .before .args .canvas) (c .before .before .before .before .before .before .before .before .before .before .before .before .before .before .before .before .before .before .before .args .bytes .now) (c .before .before .before .before .before .before .before .before .before .before .before .before .before .before .before .before .before .before .before .args .source) (c .before .before .before .before .before .before .before .before .before .before .before .before .before .before .before .before .before .before .before .args .image .now) _ _ _ (c .before .before .before .before .before .before .before .before .before .before .before .before .before .before .or-else .ensures) (c .before .before .before .before .before .before .before .before .before .before .before .before .before .before .before .before .judge .ensures) (c .before .before .before .before .before .before .before .before .before .before .before .before .before .before .before .judge-source .ensures)) ∙ c .before .before .before .before .before .before .before .before .before .before .before .before .enum-told .given .1) refl (field-did (c .before .before .before .before .before .before .before .before .before .before .before .before .before .before .before .before .before .before .before .args .canvas) (c .before .before .before .before .before .before .before .before .before .before .before .before .before .before .before .before .before .before .before .args .clip) (spots (λ i j. blendWord (form (c .before .before .before .before .before .before .before .before .before .before .before .before .before .before .before .before .before .before .before .args .canvas)) (c .before .before .before .before .before .before .before .before .before .before .before .before .before .before .before .before .before .before .before .args .canvas .xor) (sourceColor (c .before .before .before .before .before .before .before .before .before .before .before .before .before .before .before .before .before .before .before .args .source) (c .before .before .before .before .before .before .before .before .before .before .before .before .before .before .before .before .before .before .before .args .image .now) (c .before .before .before .before .before .before .before .before .before .before .before .before .before .before .before .before .before .before .before .args .dx) (c .before .before .before .before .before .before .before .before .before .before .before .before .before .before .before .before .before .before .before .args .dy) (c .before .before .before .before .before .before .before .before .before .before .before .before .before .before .before .before .before .before .before .args .sx) (c .before .before .before .before .before .before .before .before .before .before .before .before .before .before .before .before .before .before .before .args .sy) i j)) (shown (c .before .before .before .before .before .before .before .before .before .before .before .before .before .before .before .before .before .before .before .args .dx) (c .before .before .before .before .before .before .before .before .before .before .before .before .before .before .before .before .before .before .before .args .sx) (c .before .before .before .before .before .before .before .before .before .before .before .before .before .before .before .before .before .before .before .args .w) (c .before .before .before .before .before .before .before .before .before .before .before .before .before .before .before .before .before .before .before .args .source .width) (c .before .before .before .before .before .before .before .before .before .before .before .before .before .before .before .before .before .before .before .args .canvas .width)) (shown (c .before .before .before .before .before .before .before .before .before .before .before .before .before .before .before .before .before .before .before .args .dy) (c .before .before .before .before .before .before .before .before .before .before .before .before .before .before .before .before .before .before .before .args .sy) (c .before .before .before .before .before .before .before .before .before .before .before .before .before .before .before .before .before .before .before .args .h) (c .before .before .before .before .before .before .before .before .before .before .before .before .before .before .before .before .before .before .before .args .source .height) (c .before .before .before .before .before .before .before .before .before .before .before .before .before .before .before .before .before .before .before .args .canvas .height))) (λ i j. blendWord (form (c .before .before .before .before .before .before .before .before .before .before .before .before .before .before .before .before .before .before .before .args .canvas)) (c .before .before .before .before .before .before .before .before .before .before .before .before .before .before .before .before .before .before .before .args .canvas .xor) (sourceColor (c .before .before .before .before .before .before .before .before .before .before .before .before .before .before .before .before .before .before .before .args .source) (c .before .before .before .before .before .before .before .before .before .before .before .before .before .before .before .before .before .before .before .args .image .now) (c .before .before .before .before .before .before .before .before .before .before .before .before .before .before .before .before .before .before .before .args .dx) (c .before .before .before .before .before .before .before .before .before .before .before .before .before .before .before .before .before .before .before .args .dy) (c .before .before .before .before .before .before .before .before .before .before .before .before .before .before .before .before .before .before .before .args .sx) (c .before .before .before .before .before .before .before .before .before .before .before .before .before .before .before .before .before .before .before .args .sy) i j)) (c .before .before .before .before .before .before .shown-in .result .from) (c .before .before .before .before .before .before .shown-in .result .to) (c .before .before .before .before .shown-in2 .result .from) (c .before .before .before .before .shown-in2 .result .to) (rw (lowers (c .before .before .before .before .before .before .before .before .before .before .before .before .before .before .before .before .before .before .before .args .dx) _ (c .before .before .before .before .before .before .before .before .before .before .before .before .before .before .before .before .before .before .before .fits .dx) (c .before .before .before .before .before .before .before .before .before .before .before .lift .ensures), lowers (c .before .before .before .before .before .before .before .before .before .before .before .before .before .before .before .before .before .before .before .args .dy) _ (c .before .before .before .before .before .before .before .before .before .before .before .before .before .before .before .before .before .before .before .fits .dy) (c .before .before .before .before .before .before .before .before .before .before .lift2 .ensures), lowers (c .before .before .before .before .before .before .before .before .before .before .before .before .before .before .before .before .before .before .before .args .sx) _ (c .before .before .before .before .before .before .before .before .before .before .before .before .before .before .before .before .before .before .before .fits .sx) (c .before .before .before .before .before .before .before .before .before .lift3 .ensures), lowers (c .before .before .before .before .before .before .before .before .before .before .before .before .before .before .before .before .before .before .before .args .sy) _ (c .before .before .before .before .before .before .before .before .before .before .before .before .before .before .before .before .before .before .before .fits .sy) (c .before .before .before .before .before .before .before .before .lift4 .ensures)) at (shown-hits (c .before .before .before .before .before .before .before .before .before .before .before .before .before .before .before .before .before .before .before .args .canvas) (c .before .before .before .before .before .before .before .before .before .before .before .before .before .before .before .before .before .before .before .args .clip) (c .before .before .before .before .before .before .before .before .before .before .before .lift .result) (c .before .before .before .before .before .before .before .before .before .before .lift2 .result) (c .before .before .before .before .before .before .before .before .before .lift3 .result) (c .before .before .before .before .before .before .before .before .lift4 .result) (c .before .before .before .before .before .before .before .before .before .before .before .before .before .before .before .before .before .before .before .args .w) (c .before .before .before .before .before .before .before .before .before .before .before .before .before .before .before .before .before .before .before .args .h) (c .before .before .before .before .before .before .before .before .before .before .before .before .before .before .before .before .before .before .before .args .source .width) (c .before .before .before .before .before .before .before .before .before .before .before .before .before .before .before .before .before .before .before .args .source .height) (record { sfits = c .before .before .before .before .before .before .before .struct-told .given .0 .1 }) (record { sfits = c .before .before .before .before .before .before .before .struct-told .given .1 .0 .1 }) _ _ _ _ (shown-is _ _ _ _ (c .before .before .before .before .before .before .before .before .before .before .before .before .before .before .before .before .before .before .before .args .clip .x) _ _ _ (record { sfits = c .before .before .before .before .before .before .before .struct-told .given .0 .1 }) (c .before .before .before .before .before .before .shown-in .ensures)) (shown-is _ _ _ _ (c .before .before .before .before .before .before .before .before .before .before .before .before .before .before .before .before .before .before .before .args .clip .y) _ _ _ (record { sfits = c .before .before .before .before .before .before .before .struct-told .given .1 .0 .1 }) (c .before .before .before .before .shown-in2 .ensures)) (λ i j. blendWord (form (c .before .before .before .before .before .before .before .before .before .before .before .before .before .before .before .before .before .before .before .args .canvas)) (c .before .before .before .before .before .before .before .before .before .before .before .before .before .before .before .before .before .before .before .args .canvas .xor) (sourceColor (c .before .before .before .before .before .before .before .before .before .before .before .before .before .before .before .before .before .before .before .args .source) (c .before .before .before .before .before .before .before .before .before .before .before .before .before .before .before .before .before .before .before .args .image .now) (lowered (c .before .before .before .before .before .before .before .before .before .before .before .lift .result)) (lowered (c .before .before .before .before .before .before .before .before .before .before .lift2 .result)) (lowered (c .before .before .before .before .before .before .before .before .before .lift3 .result)) (lowered (c .before .before .before .before .before .before .before .before .lift4 .result)) i j)))) (c .before .before .before .before .before .before .before .before .before .before .before .before .before .before .before .before .before .before .before .args .bytes .now) (record { landed = 0 }) _ _ (c .before .before .draw-in .ensures .0 ∙ ap (λ (hs : List Hit). paint (c .before .before .before .before .before .before .before .before .before .before .before .before .before .before .before .before .before .before .before .args .canvas) hs (c .before .before .before .before .before .before .before .before .before .before .before .before .before .before .before .before .before .before .before .args .bytes .now)) (sym (rw (lowers (c .before .before .before .before .before .before .before .before .before .before .before .before .before .before .before .before .before .before .before .args .dx) _ (c .before .before .before .before .before .before .before .before .before .before .before .before .before .before .before .before .before .before .before .fits .dx) (c .before .before .before .before .before .before .before .before .before .before .before .lift .ensures), lowers (c .before .before .before .before .before .before .before .before .before .before .before .before .before .before .before .before .before .before .before .args .dy) _ (c .before .before .before .before .before .before .before .before .before .before .before .before .before .before .before .before .before .before .before .fits .dy) (c .before .before .before .before .before .before .before .before .before .before .lift2 .ensures), lowers (c .before .before .before .before .before .before .before .before .before .before .before .before .before .before .before .before .before .before .before .args .sx) _ (c .before .before .before .before .before .before .before .before .before .before .before .before .before .before .before .before .before .before .before .fits .sx) (c .before .before .before .before .before .before .before .before .before .lift3 .ensures), lowers (c .before .before .before .before .before .before .before .before .before .before .before .before .before .before .before .before .before .before .before .args .sy) _ (c .before .before .before .before .before .before .before .before .before .before .before .before .before .before .before .before .before .before .before .fits .sy) (c .before .before .before .before .before .before .before .before .lift4 .ensures)) at (draws-over (c .before .before .before .before .before .before .before .before .before .before .before .before .before .before .before .before .before .before .before .args .canvas) (c .before .before .before .before .before .before .before .before .before .before .before .before .before .before .before .before .before .before .before .args .source) (c .before .before .before .before .before .before .before .before .before .before .before .before .before .before .before .before .before .before .before .args .image .now) (c .before .before .before .before .before .before .before .before .before .before .before .lift .result) (c .before .before .before .before .before .before .before .before .before .before .lift2 .result) (c .before .before .before .before .before .before .before .before .before .lift3 .result) (c .before .before .before .before .before .before .before .before .lift4 .result) _ _ _ _ _ _ ((shown-is _ _ _ _ (c .before .before .before .before .before .before .before .before .before .before .before .before .before .before .before .before .before .before .before .args .clip .x) _ _ _ (record { sfits = c .before .before .before .before .before .before .before .struct-told .given .0 .1 }) (c .before .before .before .before .before .before .shown-in .ensures)) .sourced) ((shown-is _ _ _ _ (c .before .before .before .before .before .before .before .before .before .before .before .before .before .before .before .before .before .before .before .args .clip .y) _ _ _ (record { sfits = c .before .before .before .before .before .before .before .struct-told .given .1 .0 .1 }) (c .before .before .before .before .shown-in2 .ensures)) .sourced))))) (ap (λ (n : ℕ). record { landed = n }) (c .before .before .draw-in .ensures .1 ∙ sym (zero-add _)))))
+returns-2 c =
+    let drawn = c .before .before in
+    let down = drawn .before .before in
+    let across = down .before .before in
+    let clip = across .before in
+    let sy = clip .before in
+    let sx = sy .before in
+    let dy = sx .before in
+    let dx = dy .before in
+    let sound = dx .before in
+    let first = sound .before .before in
+    let source = first .before in
+    let canvas = source .before in
+    let start = canvas .before .before .before in
+    let a = start .args in
+    let f = start .fits in
+    let edx = lowers (a .dx) _ (f .dx) (dx .lift .ensures) in
+    let edy = lowers (a .dy) _ (f .dy) (dy .lift2 .ensures) in
+    let esx = lowers (a .sx) _ (f .sx) (sx .lift3 .ensures) in
+    let esy = lowers (a .sy) _ (f .sy) (sy .lift4 .ensures) in
+    let fx : SFits w32 (a .clip .x) = record { sfits = clip .struct-told .given .0 .1 } in
+    let fy : SFits w32 (a .clip .y) = record { sfits = clip .struct-told .given .1 .0 .1 } in
+    let columns = shown-is _ _ _ _ (a .clip .x) _ _ _ fx (across .shown-in .ensures) in
+    let rows = shown-is _ _ _ _ (a .clip .y) _ _ _ fy (down .shown-in2 .ensures) in
+    let xs : List ℕ = shown (a .dx) (a .sx) (a .w) (a .source .width) (a .canvas .width) in
+    let ys : List ℕ = shown (a .dy) (a .sy) (a .h) (a .source .height) (a .canvas .height) in
+    let dye : ℕ → ℕ → Dye = λ i j. over (sourceColor (a .source) (a .image .now) (a .dx) (a .dy) (a .sx) (a .sy) i j) in
+    let ink : ℕ → ℕ → ℕ → ℕ = λ i j. brush (a .canvas) (dye i j) in
+    let at-hits = rw (edx, edy, esx, esy) at (shown-hits (a .canvas) (a .clip) (dx .lift .result) (dy .lift2 .result) (sx .lift3 .result) (sy .lift4 .result)
+    (a .w) (a .h) (a .source .width) (a .source .height) fx fy _ _ _ _ columns rows
+    (λ i j. brush (a .canvas) (over (sourceColor (a .source) (a .image .now)
+    (lowered (dx .lift .result)) (lowered (dy .lift2 .result)) (lowered (sx .lift3 .result)) (lowered (sy .lift4 .result)) i j)))) in
+    let same = rw (edx, edy, esx, esy) at (draws-over (a .canvas) (a .source) (a .image .now) (dx .lift .result) (dy .lift2 .result) (sx .lift3 .result) (sy .lift4 .result)
+    _ _ _ _ _ _ (columns .sourced) (rows .sourced)) in
+    rw (picture-spots (brush (a .canvas)) dye xs ys)
+    (finishes (a .canvas) (a .bytes .now) (a .clip) (spots ink xs ys) _ (record { landed = 0 }) _ _
+    (sym (first-of (a .canvas) (a .bytes .now) (a .source) (a .image .now) _ _ _ (first .or-else .ensures) (canvas .judge .ensures) (source .judge-source .ensures)) ∙ sound .enum-told .given .1)
+    refl
+    (field-did (a .canvas) (a .clip) (spots ink xs ys) ink
+    (across .shown-in .result .from) (across .shown-in .result .to) (down .shown-in2 .result .from) (down .shown-in2 .result .to)
+    at-hits (a .bytes .now) (record { landed = 0 }) _ _
+    (drawn .draw-in .ensures .0 ∙ ap (λ (hs : List Hit). paint (a .canvas) hs (a .bytes .now)) (sym same))
+    (ap (λ (n : ℕ). record { landed = n }) (drawn .draw-in .ensures .1 ∙ sym (zero-add _)))))
 
 pub draw-spec : {M : Type 1} → statement M
 draw-spec =

@@ -3,8 +3,7 @@ use mathlib.Core.Path.{_∙_, ap}
 use Prim.Native.Nat.{ℕ}
 use Prim.Native.Nat.{ℕ}
 use borrow.Author.Tests.{ne-eqb}
-use Rattle.canvas.specs.Call.{call, putPixel, drawLine, drawRect, fillRect}
-use Rattle.canvas.specs.Areas.{invertRect}
+use Rattle.canvas.specs.Call.{call, putPixel, drawLine, drawRect, fillRect, invertRect}
 use Rattle.cases.specs.Ops as op
 use Rattle.replies.specs.Calls.{drawnBy}
 use mir.Syntax.{w32}
@@ -135,7 +134,7 @@ returns-5 c =
     let a = c .before .before .before .before .before .before .before .before .before .before .before .args in
     named (λ o. drawnBy o (a .n) (a .v) (a .c) (a .k) (a .image .now) (a .bytes .now)) (match .keys5)
     (invert-is (a .n) (a .v) (a .c) (a .k) (a .image .now) (a .bytes .now))
-    (made (λ x y w h. invertRect (a .v) x y w h (a .k) (a .bytes .now)) (reaches (int .result) (int .ok) (int .ensures))
+    (made (λ x y w h. call (a .v) (invertRect x y w h (a .k)) (a .bytes .now)) (reaches (int .result) (int .ok) (int .ensures))
     (reaches (int2 .result) (int2 .ok) (int2 .ensures)) (word .ensures) (word2 .ensures) (invert-rect .ensures))
 
 same-length-6 : tie.Need-same-length-6

@@ -1,5 +1,5 @@
 -- The call of the canvas, its answer read in records.
-use Rattle.canvas.specs.Areas.{invertRect}
+use Rattle.canvas.specs.Call.{invertRect, call}
 use Rattle.tuyrashka.proofs.Answers.{answers}
 use borrow.Author.Needs.{needs}
 use Rattle.tuyrashka.proofs.areas.tuyrashka_invert_rect.Statement.{statement}
@@ -28,7 +28,7 @@ returns c =
     let start = canvas-of .before .before in
     let a = start .args in
     let f = start .fits in
-    answers (d .invert-rect .result) (λ v x y _ _ z. invertRect v x y (a .w) (a .h) z (a .bytes .now)) (f .x) (f .y) (f .x) (f .y)
+    answers (d .invert-rect .result) (λ v x y _ _ z. call v (invertRect x y (a .w) (a .h) z) (a .bytes .now)) (f .x) (f .y) (f .x) (f .y)
     (canvas-of .canvas-of .ensures) (clip-of .clip-of .ensures) (c .give-drawn .ensures) (d .invert-rect .ensures)
 
 pub tuyrashka-invert-rect-spec : {M : Type 1} → statement M
