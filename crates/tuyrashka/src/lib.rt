@@ -11,9 +11,12 @@ mod icon;
 mod records;
 mod rounds;
 
+pub use areas::tuyrashka_copy_area;
 pub use areas::tuyrashka_draw;
 pub use areas::tuyrashka_invert_rect;
+pub use bitmap::tuyrashka_decode_lbmp;
 use canvas::Pixel;
+pub use icon::tuyrashka_decode_res;
 use records::canvas_of;
 use records::clip_of;
 use records::color_of;
