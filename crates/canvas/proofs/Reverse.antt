@@ -22,7 +22,7 @@ use Rattle.canvas.specs.Plot.{Point, Dye, plain, over, inverse, Dot, tin
 use Rattle.pixels.specs.Hits.{Hit, paint}
 use Rattle.canvas.specs.Call.{Call, shape, draw, clipOf, faultOf, sourceColor, dots, brush, plots, ruled, drawing, call}
 use Rattle.canvas.specs.Boxes.{picture}
-use Rattle.canvas.specs.Calls.{after, unless, landing, stays}
+use Rattle.canvas.specs.Calls.{after, unless, landing, landings, stays}
 use Rattle.pixels.proofs.bytes.Cells.{Bytes}
 use Rattle.canvas.proofs.faults.Verdicts.{sized}
 use Rattle.canvas.proofs.plot.Fates.{lands-on}
@@ -125,35 +125,31 @@ call-stamped v x k c = go (faultOf k)
 
 -- ---- the hits of a list of calls
 
-unfoldable pub all-hits : Canvas → List Call → List Hit
-all-hits v [] = []
-all-hits v (k ∷ ks) = landing v k (plots v k) ++ all-hits v ks
-
-pub hits-all : (v : Canvas) → v .xor ≡ true → (ks : List Call) → Fine ks → All (Stamped v) (all-hits v ks)
-unfolding all-hits
+pub hits-all : (v : Canvas) → v .xor ≡ true → (ks : List Call) → Fine ks → All (Stamped v) (landings v ks)
+unfolding landings
 hits-all v x [] end = none
 hits-all v x (k ∷ ks) (then c cs) = all-append (call-stamped v x k c) (hits-all v x ks cs)
 
-hits-append : (v : Canvas) (ks ls : List Call) → all-hits v (ks ++ ls) ≡ all-hits v ks ++ all-hits v ls
-unfolding all-hits
+hits-append : (v : Canvas) (ks ls : List Call) → landings v (ks ++ ls) ≡ landings v ks ++ landings v ls
+unfolding landings
 hits-append v [] ls = refl
 hits-append v (k ∷ ks) ls =
     ap (λ (l : List Hit). landing v k (plots v k) ++ l) (hits-append v ks ls)
-    ∙ sym (append-assoc (landing v k (plots v k)) (all-hits v ks) (all-hits v ls))
+    ∙ sym (append-assoc (landing v k (plots v k)) (landings v ks) (landings v ls))
 
-hits-perm : (v : Canvas) {ks ls : List Call} → List·Permᴰ ks ls → List·Permᴰ (all-hits v ks) (all-hits v ls)
-unfolding all-hits
+hits-perm : (v : Canvas) {ks ls : List Call} → List·Permᴰ ks ls → List·Permᴰ (landings v ks) (landings v ls)
+unfolding landings
 hits-perm v List·Permᴰ·nil = List·Permᴰ·nil
 hits-perm v (List·Permᴰ·cons {a = a} {b = b} {l₂ = l} e p) =
     List·Permᴰ·trans (Permᴰ·append-left (landing v a (plots v a)) (hits-perm v p))
-    (perm-of (ap (λ (k : Call). landing v k (plots v k) ++ all-hits v l) e))
+    (perm-of (ap (λ (k : Call). landing v k (plots v k) ++ landings v l) e))
 hits-perm v (List·Permᴰ·swap {a = a} {b = b} {l = l} e f) =
     let A : List Hit = landing v a (plots v a) in
     let B : List Hit = landing v b (plots v b) in
-    List·Permᴰ·trans (perm-of (sym (append-assoc A B (all-hits v l))))
-    (List·Permᴰ·trans (Permᴰ·append-right (all-hits v l) (List·Permᴰ·append-comm A B))
-    (List·Permᴰ·trans (perm-of (append-assoc B A (all-hits v l)))
-    (perm-of (ap₂ (λ (k j : Call). landing v k (plots v k) ++ (landing v j (plots v j) ++ all-hits v l)) f e))))
+    List·Permᴰ·trans (perm-of (sym (append-assoc A B (landings v l))))
+    (List·Permᴰ·trans (Permᴰ·append-right (landings v l) (List·Permᴰ·append-comm A B))
+    (List·Permᴰ·trans (perm-of (append-assoc B A (landings v l)))
+    (perm-of (ap₂ (λ (k j : Call). landing v k (plots v k) ++ (landing v j (plots v j) ++ landings v l)) f e))))
 hits-perm v (List·Permᴰ·trans p q) = List·Permᴰ·trans (hits-perm v p) (hits-perm v q)
 
 -- ---- what a list of calls leaves: the paint of its hits, or, refused, the first bytes
@@ -167,13 +163,13 @@ call-paints v k b e = rw e (go (faultOf k))
     go Sound = refl
     go (Faulty r) = refl
 
-after-sound : (v : Canvas) (ks : List Call) (b : List ℕ) → Screen v b → verdict v (length b) ≡ Sound → after v ks b ≡ paint v (all-hits v ks) b
-unfolding after all-hits paint
+after-sound : (v : Canvas) (ks : List Call) (b : List ℕ) → Screen v b → verdict v (length b) ≡ Sound → after v ks b ≡ paint v (landings v ks) b
+unfolding after landings paint
 after-sound v [] b s e = refl
 after-sound v (k ∷ ks) b s e =
     let hs : List Hit = landing v k (plots v k) in
     let e′ : verdict v (length (paint v hs b)) ≡ Sound = rw (paint-length v hs b) e in
-    ap (after v ks) (call-paints v k b e) ∙ after-sound v ks (paint v hs b) (paint-screen hs s) e′ ∙ sym (paint-append v hs (all-hits v ks) b)
+    ap (after v ks) (call-paints v k b e) ∙ after-sound v ks (paint v hs b) (paint-screen hs s) e′ ∙ sym (paint-append v hs (landings v ks) b)
 
 pub after-faulty : (v : Canvas) (ks : List Call) (b : List ℕ) (r : Refusal) → verdict v (length b) ≡ Faulty r → after v ks b ≡ b
 unfolding after drawing orElse
@@ -187,7 +183,7 @@ after-length v ks b o = go (verdict v (length b)) refl
     go (Faulty r) e = ap length (after-faulty v ks b r e)
     go Sound e =
         let s : Screen v b = record { long = sized v b e .long; bytes = o } in
-        ap length (after-sound v ks b s e) ∙ paint-length v (all-hits v ks) b
+        ap length (after-sound v ks b s e) ∙ paint-length v (landings v ks) b
 
 -- an answer's number and count do not hang on the bytes
 ruled-alike : (d : Verdict) (n : ℕ) (p b p′ b′ : List ℕ) → (ruled d n p b .status ≡ ruled d n p′ b′ .status) × (ruled d n p b .count ≡ ruled d n p′ b′ .count)
@@ -216,7 +212,7 @@ any-order v ks ls b x o f p = go (verdict v (length b)) refl
 
 -- made again in any order, each hit's ink is put on twice
 pub made-again : (v : Canvas) (ks ls : List Call) (b : List ℕ) → v .xor ≡ true → Screen v b → verdict v (length b) ≡ Sound → Fine ks → List·Permᴰ ks ls
-    → after v (ks ++ ls) b ≡ paint v (map doubled (all-hits v ks)) b
+    → after v (ks ++ ls) b ≡ paint v (map doubled (landings v ks)) b
 made-again v ks ls b x s e f p =
     after-sound v (ks ++ ls) b s e ∙ ap (λ (hs : List Hit). paint v hs b) (hits-append v ks ls)
-    ∙ paint-back v (Stamped v) (stamped v) (all-hits v ks) (all-hits v ls) b (hits-perm v p) s (hits-all v x ks f)
+    ∙ paint-back v (Stamped v) (stamped v) (landings v ks) (landings v ls) b (hits-perm v p) s (hits-all v x ks f)

@@ -1,7 +1,7 @@
 -- Any order, and taking away, of functions that are run: each step of a run is a function's own contract, held between entry and exit.
 -- A run leaves what its calls leave, and the rest is in Reverse and Stains. Called has the public functions, Linked those that people link.
 use mathlib.Core.Path.{_≡_, refl, sym, ap, ap₂, _∙_}
-use mathlib.Core.Bool.{Bool, true, false, cond}
+use mathlib.Core.Bool.{Bool, true, false, cond, not}
 use mathlib.Core.List.{List, [], _∷_, _++_, map, zip, zipWith, List·Permᴰ, List·Permᴰ·nil, List·Permᴰ·cons, List·Permᴰ·swap, List·Permᴰ·trans, List·Mem}
 use Prim.Native.Nat.{ℕ, _+_, _*_, _/_, _%_, _≤_}
 use native.Mathlib.Omega.{arith}
@@ -25,7 +25,7 @@ use Rattle.pixels.specs.Hits.{Hit, paint}
 use Rattle.canvas.specs.Faults.{orElse, verdict}
 use Rattle.canvas.specs.Plot.{hits}
 use Rattle.canvas.specs.Call.{Call, clipOf, faultOf, plots, statusOf, countOf, leaves, ruled, drawing, call}
-use Rattle.canvas.specs.Calls.{after, stains, struck, inverts}
+use Rattle.canvas.specs.Calls.{after, landings, stains, struck, those, inverts}
 use Rattle.pixels.proofs.bytes.Cells.{Bytes}
 use Rattle.pixels.proofs.Hits.{paint-length}
 use Rattle.canvas.proofs.Reverse.{Colored, Fine, end, then}
@@ -193,26 +193,33 @@ module _ (M : Maker) {v : Canvas} {ks ls : List Call} {b b′ b″ : List ℕ} {
 
     -- of Rgb8, the word: the first one, but that the top byte is 0 where an inversion landed
     pub tops-cleared : form v ≡ rgb8 → verdict v (length b) ≡ Sound → (i j : ℕ) → On v i j
-        → loadAt v b″ i j ≡ cond (struck (stains v ks) i j) (loadAt v b i j % 16777216) (loadAt v b i j)
+        → loadAt v b″ i j ≡ cond (struck (landings v (those inverts ks)) i j) (loadAt v b i j % 16777216) (loadAt v b i j)
     unfolding settled keepsAlpha
     tops-cleared f e i j on =
         words-back e i j on
-        ∙ ap (λ (n : ℕ). cond (struck (stains v ks) i j) n (loadAt v b i j))
+        ∙ ap₂ (λ (t : Bool) (n : ℕ). cond t n (loadAt v b i j)) (stain.by-inversions v ks i j (ap keepsAlpha f))
         (ap (λ (t : Format). settled t (loadAt v b i j)) f ∙ zero-add (loadAt v b i j % 16777216))
+
+    -- where alpha is kept, the word of a pixel on which inversions alone landed, or nothing: the first one
+    pub under-inversions : keepsAlpha (form v) ≡ true → verdict v (length b) ≡ Sound → (i j : ℕ) → On v i j
+        → struck (landings v (those (λ k. not (inverts k)) ks)) i j ≡ false → loadAt v b″ i j ≡ loadAt v b i j
+    under-inversions a e i j on z =
+        words-back e i j on ∙ ap (λ (t : Bool). cond t (settled (form v) (loadAt v b i j)) (loadAt v b i j)) (stain.by-drawings v ks i j a z)
 
     -- on any canvas, the first bytes: where words have no top byte;
     pub narrow-back : range (form v) ≤ 16777216 → b″ ≡ b
     narrow-back l = run-is (run-append p q) ∙ stain.narrow-back v ks ls b x o (fine p) s l
 
+    unstained : ((k : Call) → List·Mem k ks → inverts k ≡ keepsAlpha (form v)) → b″ ≡ b
+    unstained n = run-is (run-append p q) ∙ stain.unstained-back v ks ls b x o (fine p) s (stain.unstained v ks n)
+
     -- where alpha is not kept and no call inverts;
     pub taken-away : keepsAlpha (form v) ≡ false → ((k : Call) → List·Mem k ks → inverts k ≡ false) → b″ ≡ b
-    taken-away a n =
-        run-is (run-append p q) ∙ stain.unstained-back v ks ls b x o (fine p) s (stain.unstained v ks (λ k m. n k m ∙ sym a))
+    taken-away a n = unstained (λ k m. n k m ∙ sym a)
 
     -- and where it is kept and every call does
     pub inversions-back : keepsAlpha (form v) ≡ true → ((k : Call) → List·Mem k ks → inverts k ≡ true) → b″ ≡ b
-    inversions-back a n =
-        run-is (run-append p q) ∙ stain.unstained-back v ks ls b x o (fine p) s (stain.unstained v ks (λ k m. n k m ∙ sym a))
+    inversions-back a n = unstained (λ k m. n k m ∙ sym a)
 
 -- on a canvas that is refused, for any run, and so for two: every answer is that refusal, and the bytes are as before
 pub all-refused : (M : Maker) {v : Canvas} {ks : List Call} {b b′ : List ℕ} {ds : List (M .Answer)} {r : Refusal} → verdict v (length b) ≡ Faulty r → Run M v ks b ds b′

@@ -47,10 +47,12 @@ settled-narrow argb w l m = absurd (omega (arith, l))
 settled-narrow abgr w l m = absurd (omega (arith, l))
 settled-narrow none w l m = settled-below none w refl (omega (arith, m))
 
-xor-solid : (j w : ℕ) → j < 16777216 → 4278190080 + bitXor (w % 16777216) j ≡ bitXor (4278190080 + w % 16777216) j
-xor-solid j w l =
-    sym (xor-block 24 255 0 (w % 16777216) j (mod-lt w (omega arith)) l)
-    ∙ ap (bitXor (4278190080 + w % 16777216)) (zero-add j)
+-- Flipping bits below the top byte leaves it.
+below-xor : (t j w : ℕ) → j < 16777216 → t * 16777216 + bitXor (w % 16777216) j ≡ bitXor (t * 16777216 + w % 16777216) j
+below-xor t j w l =
+    ap (λ (x : ℕ). x * 16777216 + bitXor (w % 16777216) j) (sym (xor-zero-r t))
+    ∙ sym (xor-block 24 t 0 (w % 16777216) j (mod-lt w (omega arith)) l)
+    ∙ ap (bitXor (t * 16777216 + w % 16777216)) (zero-add j)
 
 pub xor-stamps : (f : Format) (c : Color) → Channels c → Stamps f (keepsAlpha f) (λ w. xorColor f w c)
 unfolding xorColor keepsAlpha settled range fromColor
@@ -59,10 +61,10 @@ xor-stamps rgb565 c h = record { flips = fromColor rgb565 c; below = omega (arit
 xor-stamps rgb8 c h = record { flips = fromColor rgb8 c; below = bare-fits rgb8 c h; fits = fits rgb8 c h; does = λ w l. refl }
 xor-stamps argb c h =
     let b : fromColor argb (bare c) < 16777216 = bare-fits argb c h in
-    record { flips = fromColor argb (bare c); below = b; fits = omega (arith, b); does = λ w l. xor-solid (fromColor argb (bare c)) w b }
+    record { flips = fromColor argb (bare c); below = b; fits = omega (arith, b); does = λ w l. below-xor 255 (fromColor argb (bare c)) w b }
 xor-stamps abgr c h =
     let b : fromColor abgr (bare c) < 16777216 = bare-fits abgr c h in
-    record { flips = fromColor abgr (bare c); below = b; fits = omega (arith, b); does = λ w l. xor-solid (fromColor abgr (bare c)) w b }
+    record { flips = fromColor abgr (bare c); below = b; fits = omega (arith, b); does = λ w l. below-xor 255 (fromColor abgr (bare c)) w b }
 xor-stamps none c h = record { flips = fromColor none c; below = omega (arith, fits none c h); fits = fits none c h; does = λ w l. refl }
 
 positive : (f : Format) → 0 < range f
@@ -128,10 +130,7 @@ invert-stamps none = record {
 -- Settling heeds no bits below the top byte.
 top-xor : (t j w : ℕ) → j < 16777216 → t * 16777216 + bitXor w j % 16777216 ≡ bitXor (t * 16777216 + w % 16777216) j
 top-xor t j w l =
-    ap (λ (x : ℕ). t * 16777216 + x) (xor-mod w j 24 ∙ ap (bitXor (w % 16777216)) (mod-eq-of-lt l))
-    ∙ ap (λ (x : ℕ). x * 16777216 + bitXor (w % 16777216) j) (sym (xor-zero-r t))
-    ∙ sym (xor-block 24 t 0 (w % 16777216) j (mod-lt w (omega arith)) l)
-    ∙ ap (bitXor (t * 16777216 + w % 16777216)) (zero-add j)
+    ap (λ (x : ℕ). t * 16777216 + x) (xor-mod w j 24 ∙ ap (bitXor (w % 16777216)) (mod-eq-of-lt l)) ∙ below-xor t j w l
 
 left-xor : (f : Format) (s : Bool) (j w : ℕ) → j < 16777216 → left f s (bitXor w j) ≡ bitXor (left f s w) j
 unfolding settled
