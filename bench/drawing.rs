@@ -3,10 +3,11 @@
 //!   passed in each call; the canvas is not looked at anew.
 //! - Ours: the whole call of the static library, which tests the canvas's format, sides and length each time, and counts.
 //!
-//! Each time is the best of many samples. Before a row is timed both sides must leave the same bytes.
+//! Each time is the best of many samples. Before a row is timed both sides must leave the same bytes. The last table has ours
+//! twice, on rows without tails and with them; `tails` prints it alone.
 //!
-//! `passes CALL rust|ours FORMAT XOR K` makes a call K times on one side and prints nothing, for instructions to be counted;
-//! `shapes` prints the names of the lines and curves that are built in, with the plots that land.
+//! `passes CALL rust|ours|tails FORMAT XOR K` makes a call K times on one side and prints nothing, for instructions to be
+//! counted; `shapes` prints the names of the lines and curves that are built in, with the plots that land.
 
 extern crate alloc;
 
@@ -36,6 +37,8 @@ const WHOLE: Clip = Clip { x: 0, y: 0, width: WIDTH, height: HEIGHT };
 const INNER: Clip = Clip { x: 10, y: 10, width: WIDTH - 20, height: HEIGHT - 20 };
 const NAMES: [&str; 5] = ["332", "565", "RGB8", "ARGB", "ABGR"];
 const SIZES: [u32; 5] = [1, 2, 4, 4, 4];
+/// The pixels of a tail, where rows have one.
+const TAIL: u32 = 16;
 
 /// The clip as ours takes it, made once.
 const LENT: exported::Clip = part(WHOLE);
@@ -61,6 +64,20 @@ enum Work {
 }
 
 impl Ours {
+    /// The same pixels in rows with tails.
+    fn with_tails(&self) -> Ours {
+        let Ours { canvas, ref bytes } = *self;
+        let size = SIZES[canvas.format as usize];
+        let tail = vec![0xA5; (TAIL * size) as usize];
+        let bytes = bytes.chunks_exact((canvas.width * size) as usize).flat_map(|row| [row, &tail].concat()).collect();
+        Ours { canvas: exported::Canvas { row: canvas.width + TAIL, ..canvas }, bytes }
+    }
+
+    /// The one that a side of `passes` takes.
+    fn on(self, side: &str) -> Ours {
+        if side == "tails" { self.with_tails() } else { self }
+    }
+
     fn call(&mut self, image: &Ours, work: Work) -> u64 {
         let (canvas, data, length, argb) = (&self.canvas, self.bytes.as_mut_ptr(), self.bytes.len(), word(COLOR));
         let mut drawn = Drawn::default();
@@ -70,9 +87,7 @@ impl Ours {
                 Work::Fill(clip) => tuyrashka_fill_rect(canvas, data, length, 0, 0, WIDTH, HEIGHT, argb, &part(clip), d),
                 Work::Rect(x, y, w, h) => tuyrashka_draw_rect(canvas, data, length, x, y, w, h, argb, &LENT, d),
                 Work::Invert => tuyrashka_invert_rect(canvas, data, length, 0, 0, WIDTH, HEIGHT, &LENT, d),
-                Work::Copy((dx, dy), (sx, sy), w, h) => {
-                    tuyrashka_copy_area(canvas, data, length, dx, dy, sx, sy, w, h, &LENT, d)
-                }
+                Work::Copy((dx, dy), (sx, sy), w, h) => tuyrashka_copy_area(canvas, data, length, dx, dy, sx, sy, w, h, &LENT, d),
                 Work::Draw => {
                     let (source, image) = (&image.canvas, &image.bytes);
                     let (image, image_length) = (image.as_ptr(), image.len());
@@ -86,9 +101,8 @@ impl Ours {
 
     fn put(&mut self, x: i32, y: i32) -> u64 {
         let (mut drawn, data) = (Drawn::default(), &mut self.bytes);
-        let status = unsafe {
-            tuyrashka_put_pixel(&self.canvas, data.as_mut_ptr(), data.len(), x, y, word(COLOR), &LENT, &mut drawn)
-        };
+        let status =
+            unsafe { tuyrashka_put_pixel(&self.canvas, data.as_mut_ptr(), data.len(), x, y, word(COLOR), &LENT, &mut drawn) };
         assert_eq!(status, 0);
         drawn.landed
     }
@@ -121,7 +135,7 @@ fn pair_of(format: u32, xor: bool, mut s: u32, sides: (u32, u32)) -> (Box<dyn Ca
     };
     canvas.set_xor_mode(xor);
     let (width, height) = sides;
-    (canvas, Ours { canvas: exported::Canvas { format, width, height, xor_mode: xor.into() }, bytes })
+    (canvas, Ours { canvas: exported::Canvas { format, width, height, xor_mode: xor.into(), row: width }, bytes })
 }
 
 fn canvas_of<P: PixelType + 'static>((width, height): (u32, u32), bytes: &[u8]) -> Box<dyn Canvas> {
@@ -212,7 +226,8 @@ fn passes(name: &str, side: &str, format: u32, xor: bool, k: u32) {
     if shapes::passes(name, side, format, xor, k) {
         return;
     }
-    let (mut canvas, mut ours) = pair(format, xor, 7);
+    let (mut canvas, ours) = pair(format, xor, 7);
+    let mut ours = ours.on(side);
     match (name, side) {
         ("put", "rust") => return (0..k).for_each(|_| rust_puts(&mut *canvas)),
         ("put", _) => return (0..k).for_each(|_| every_point(|x, y| _ = black_box(ours.put(x, y)))),
@@ -221,6 +236,7 @@ fn passes(name: &str, side: &str, format: u32, xor: bool, k: u32) {
         _ => {}
     }
     let (image, lent) = pair(3, false, 8);
+    let lent = lent.on(side);
     let copy = |note| COPIES.into_iter().find(|(name, _)| *name == note);
     let work = match name {
         "fill" => Work::Fill(WHOLE),
@@ -237,6 +253,39 @@ fn passes(name: &str, side: &str, format: u32, xor: bool, k: u32) {
     }
 }
 
+/// A row of the table of tails: times of a pass on rows without them and with them, which must leave the same pixels.
+fn beside(what: &str, note: &str, mut plain: Ours, pass: impl Fn(&mut Ours, bool) -> u64) {
+    let mut tailed = plain.with_tails();
+    let exported::Canvas { format, xor_mode, .. } = plain.canvas;
+    let landed = pass(&mut plain, false);
+    assert_eq!(pass(&mut tailed, true), landed);
+    assert!(plain.with_tails().bytes == tailed.bytes, "the two rows differ in format {format}");
+    let times = race(|| _ = black_box(pass(&mut plain, false)), || _ = black_box(pass(&mut tailed, true)));
+    row(what, format, xor_mode != 0, note, landed, times);
+}
+
+/// Fills, images and copies on every format, and lines.
+fn tails() {
+    println!("\n| tails of {TAIL} | format | XOR | how | without, ns a pixel | with, ns a pixel | with / without |");
+    println!("|---|---|---|---|---|---|---|");
+    let [up, _, _, right, _] = COPIES;
+    let works = [
+        ("fill_rect", ("whole", Work::Fill(WHOLE))),
+        ("draw", ("ARGB over it", Work::Draw)),
+        ("copy_area", up),
+        ("copy_area", right),
+    ];
+    for (what, (note, work)) in works {
+        for format in 0..5 {
+            let lent = pair(3, false, 8).1;
+            let tailed = lent.with_tails();
+            let pass = |ours: &mut Ours, tails: bool| ours.call(if tails { &tailed } else { &lent }, black_box(work));
+            beside(what, note, pair(format, false, 7).1, pass);
+        }
+    }
+    shapes::tails();
+}
+
 /// Each format with XOR off and on.
 fn modes() -> impl Iterator<Item = (u32, bool)> {
     (0..5).flat_map(|format| [(format, false), (format, true)])
@@ -250,6 +299,9 @@ fn main() {
     }
     if words == ["shapes"] {
         return shapes::names();
+    }
+    if words == ["tails"] {
+        return tails();
     }
     println!("| {WIDTH} by {HEIGHT} | format | XOR | how | Rust, ns a pixel | ours, ns a pixel | ours / Rust |");
     println!("|---|---|---|---|---|---|---|");
@@ -268,4 +320,5 @@ fn main() {
     modes().for_each(|(format, xor)| put(format, xor));
     (0..5).for_each(get);
     shapes::rows();
+    tails();
 }

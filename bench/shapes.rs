@@ -5,7 +5,7 @@ use std::hint::black_box;
 use crate::canvas::{Canvas, Clip};
 #[allow(unused)]
 use crate::exported::{self, *};
-use crate::{COLOR, Ours, pair_of, race, row, same};
+use crate::{COLOR, Ours, beside, pair_of, race, row, same};
 
 /// A screen on which every line has 320 plots.
 const SIDE: u32 = 320;
@@ -125,6 +125,15 @@ pub fn rows() {
     }
 }
 
+/// A shallow line and a horizontal one, on rows without tails and with them.
+pub fn tails() {
+    for (note, shape) in built().filter(|(name, _)| ["shallow", "horizontal"].contains(name)) {
+        for format in 0..5 {
+            beside(shape.what().0, note, pair_of(format, false, 7, (SIDE, SIDE)).1, |ours, _| black_box(shape).ours(ours));
+        }
+    }
+}
+
 /// The names that are built in, with the plots that land.
 pub fn names() {
     for (name, shape) in built() {
@@ -135,7 +144,8 @@ pub fn names() {
 /// Whether there is such a shape; it is then drawn k times on one side.
 pub fn passes(name: &str, side: &str, format: u32, xor: bool, k: u32) -> bool {
     let Some((_, shape)) = built().find(|(other, _)| *other == name) else { return false };
-    let (mut canvas, mut ours) = pair_of(format, xor, 7, (SIDE, SIDE));
+    let (mut canvas, ours) = pair_of(format, xor, 7, (SIDE, SIDE));
+    let mut ours = ours.on(side);
     for _ in 0..k {
         match side {
             "rust" => black_box(shape).rust(&mut *canvas),

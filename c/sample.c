@@ -9,13 +9,14 @@
 #define SIDE 48
 
 static uint8_t bytes[WIDTH * HEIGHT * 2];
-static const struct tuyrashka_canvas screen = {TUYRASHKA_RGB565, WIDTH, HEIGHT, 0};
+static struct tuyrashka_canvas screen;
 static const struct tuyrashka_clip whole = {0, 0, WIDTH, HEIGHT};
 
 /* Draws a box with XOR on: once to show it, and again to take it away. */
 static uint32_t xor_box(struct tuyrashka_drawn *drawn)
 {
-    const struct tuyrashka_canvas xored = {TUYRASHKA_RGB565, WIDTH, HEIGHT, 1};
+    struct tuyrashka_canvas xored = tuyrashka_canvas_of(TUYRASHKA_RGB565, WIDTH, HEIGHT);
+    xored.xor_mode = 1;
     return tuyrashka_draw_rect(&xored, bytes, sizeof bytes, 14, 96, 156, 120, 0xFFFFFFFFu, &whole, drawn);
 }
 
@@ -50,7 +51,7 @@ static uint32_t draw_pie(struct tuyrashka_drawn *drawn)
 static uint32_t draw_image(struct tuyrashka_drawn *drawn)
 {
     static uint8_t pixels[SIDE * SIDE * 4];
-    static const struct tuyrashka_canvas image = {TUYRASHKA_ARGB, SIDE, SIDE, 0};
+    const struct tuyrashka_canvas image = tuyrashka_canvas_of(TUYRASHKA_ARGB, SIDE, SIDE);
     const struct tuyrashka_clip all = {0, 0, SIDE, SIDE};
     uint32_t refused = 0;
     for (uint32_t x = 0; x < SIDE; x++)
@@ -66,12 +67,10 @@ static uint32_t draw_icons(struct tuyrashka_drawn *drawn)
     static const uint8_t file[] = "\xCE\xFA\xAD\xDE\0\0\x08\0"
                                   "\x02\x04\x04\x08\0\0\0\0"
                                   "\xE0\xFC\xFC\xE0\xFC\x03\x03\xFC\xFC\x03\x03\xFC\xE0\xFC\xFC\xE0";
-    struct tuyrashka_canvas icon = {TUYRASHKA_RGB332, 0, 0, 0};
     struct tuyrashka_size size;
     size_t start;
     uint32_t refused = tuyrashka_decode_res(file, sizeof file, &start, &size);
-    icon.width = size.width;
-    icon.height = size.height;
+    const struct tuyrashka_canvas icon = tuyrashka_canvas_of(TUYRASHKA_RGB332, size.width, size.height);
     for (int32_t i = 0; i < 24; i++)
         refused |= tuyrashka_draw(&screen, bytes, sizeof bytes, 120 + i % 12 * 8, 190 + i / 12 * 10, size.width, size.height,
                                   &icon, file + start, (size_t)size.width * size.height, 0, 0, &whole, drawn);
@@ -109,6 +108,7 @@ int main(int argc, char **argv)
     struct tuyrashka_drawn drawn, gone;
     if (argc != 2)
         return fail("usage: sample FILE.ppm");
+    screen = tuyrashka_canvas_of(TUYRASHKA_RGB565, WIDTH, HEIGHT);
     if ((draw_ground(&drawn) | draw_pie(&drawn) | draw_image(&drawn) | draw_icons(&drawn)) != TUYRASHKA_OK)
         return fail("a call was refused");
     memcpy(before, bytes, sizeof bytes);

@@ -18,9 +18,9 @@ extern "C" {
 #endif
 
 #define TUYRASHKA_VERSION_MAJOR 0
-#define TUYRASHKA_VERSION_MINOR 2
+#define TUYRASHKA_VERSION_MINOR 3
 #define TUYRASHKA_VERSION_PATCH 0
-#define TUYRASHKA_VERSION "0.2.0"
+#define TUYRASHKA_VERSION "0.3.0"
 
 /* Formats. A pixel is a little-endian word. */
 #define TUYRASHKA_RGB332 0u /* 1 byte */
@@ -29,12 +29,13 @@ extern "C" {
 #define TUYRASHKA_ARGB 3u   /* 4 bytes, AARRGGBB */
 #define TUYRASHKA_ABGR 4u   /* 4 bytes, AABBGGRR */
 
-/* What a call returns. Of the first six that hold the lowest is given; a file gets the first that is met. */
+/* What a call returns. On a canvas the first that holds is given, in this order: FORMAT, SIZE, ROW, LENGTH, SOURCE, ANGLE, SHAPE.
+ * A file gets the first that is met. */
 #define TUYRASHKA_OK 0u
 #define TUYRASHKA_FORMAT 1u   /* the format is above 4 */
 #define TUYRASHKA_SIZE 2u     /* a side of the canvas is above 32,767 */
-#define TUYRASHKA_LENGTH 3u   /* data_len is not width times height times the bytes of a pixel */
-#define TUYRASHKA_SOURCE 4u   /* tuyrashka_draw: one of the first three holds of the source */
+#define TUYRASHKA_LENGTH 3u   /* data_len is not row times height times the bytes of a pixel */
+#define TUYRASHKA_SOURCE 4u   /* tuyrashka_draw: FORMAT, SIZE, ROW or LENGTH holds of the source */
 #define TUYRASHKA_ANGLE 5u    /* arcs and pies: an angle is outside -720..720 */
 #define TUYRASHKA_SHAPE 6u    /* arcs, pies, round rectangles: x or y outside -32,768..32,767, or w or h above 32,767 */
 #define TUYRASHKA_INVALID 10u /* LBMP: a bad header, or bytes are missing */
@@ -44,15 +45,28 @@ extern "C" {
 #define TUYRASHKA_DEPTH 14u   /* RES: a record's depth is not 8 */
 #define TUYRASHKA_RESTYPE 15u /* RES: a record's type is not 2 or 3 */
 #define TUYRASHKA_NOICON 16u  /* RES: the file ends before an icon */
+#define TUYRASHKA_ROW 18u     /* row is below the width or above 32,767 */
 
-/* A canvas, beside its bytes: width times height pixels in rows, from the top. A side may be 0.
+/* A canvas, beside its bytes: height rows from the top, each of row pixels, of which the first width are the canvas. A side may
+ * be 0.
+ *
+ * What a row has beyond the width is its tail. Tails are lent with the rest, that of the last row too, and stay as they are in
+ * every call; a point there is off the canvas. Where rows have none, row is the width. A record whose initialiser leaves row out
+ * has a row of 0, and is refused unless its width is 0; tuyrashka_canvas_of makes one whose row is its width.
  *
  * With XOR off a plot stores its colour; a format without alpha drops it. With XOR on (xor_mode is not 0) a colour of alpha 0
  * changes nothing, and any other is XORed with the pixel, so that drawing again takes it away; ARGB and ABGR then XOR r, g and b
  * and set alpha to 255. */
 struct tuyrashka_canvas {
-    uint32_t format, width, height, xor_mode;
+    uint32_t format, width, height, xor_mode, row;
 };
+
+/* A canvas whose rows have no tails, with XOR off. */
+static inline struct tuyrashka_canvas tuyrashka_canvas_of(uint32_t format, uint32_t width, uint32_t height)
+{
+    struct tuyrashka_canvas canvas = {format, width, height, 0, width};
+    return canvas;
+}
 
 /* What a call may touch: columns from x up to but not including x + width, and rows likewise, without wrap. It may lie off the
  * canvas, and a side may be 0. */
@@ -153,7 +167,7 @@ uint32_t tuyrashka_decode_lbmp(const uint8_t *file, size_t file_len, uint32_t *o
                                struct tuyrashka_size *size, uint64_t *clear);
 
 /* Finds the first static icon of a RES file: its pixels are the width times height bytes of the file from *start on, in rows. As
- * the image of tuyrashka_draw, with the format TUYRASHKA_RGB332, they are never refused. */
+ * the image of tuyrashka_draw, by tuyrashka_canvas_of with the format TUYRASHKA_RGB332, they are never refused. */
 uint32_t tuyrashka_decode_res(const uint8_t *file, size_t file_len, size_t *start, struct tuyrashka_size *size);
 
 #ifdef __cplusplus

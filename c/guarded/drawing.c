@@ -55,8 +55,8 @@ void make_drawing_arenas(void)
 
 static void show_board(const char *what, const struct board *b)
 {
-    printf("  %s: format %u, %u by %u, XOR %u, %zu bytes%s\n", what, b->record.format, b->record.width, b->record.height,
-           b->record.xor_mode, b->bytes->length, b->null ? " (NULL)" : "");
+    printf("  %s: format %u, %u by %u, rows of %u, XOR %u, %zu bytes%s\n", what, b->record.format, b->record.width,
+           b->record.height, b->record.row, b->record.xor_mode, b->bytes->length, b->null ? " (NULL)" : "");
 }
 
 static void show_call(void)
@@ -80,7 +80,19 @@ static uint32_t fault_of(const struct tuyrashka_canvas *c, size_t length)
         return TUYRASHKA_FORMAT;
     if (c->width > 32767 || c->height > 32767)
         return TUYRASHKA_SIZE;
-    return length == (uint64_t)c->width * c->height * pixel_bytes(c->format) ? TUYRASHKA_OK : TUYRASHKA_LENGTH;
+    if (c->row < c->width || c->row > 32767)
+        return TUYRASHKA_ROW;
+    return length == (uint64_t)c->row * c->height * pixel_bytes(c->format) ? TUYRASHKA_OK : TUYRASHKA_LENGTH;
+}
+
+/* A row by chance: the width or some pixels more, and at times 32,767 or so, of a canvas that is not high. */
+static void choose_row(struct tuyrashka_canvas *c)
+{
+    c->row = one_in(2) ? c->width : c->width + 1 + below(c->height > 16 ? 1 : 8);
+    if (one_in(1000)) {
+        c->height = 1 + below(2);
+        c->row = 32765 + below(5);
+    }
 }
 
 /* A record by chance: small sides, or one of 32,767 or so, or numbers near the edges. */
@@ -95,6 +107,7 @@ static void choose_record(struct tuyrashka_canvas *c)
         c->width = one_in(2) ? longer : 1;
         c->height = c->width == 1 ? longer : 1 + below(2);
     }
+    choose_row(c);
     if (!one_in(20))
         return;
     if (one_in(3))
@@ -103,12 +116,15 @@ static void choose_record(struct tuyrashka_canvas *c)
         c->width = extreme();
     if (one_in(3))
         c->height = extreme();
+    if (one_in(3))
+        c->row = one_in(2) ? c->width - 1 : extreme();
 }
 
-/* The bytes of a record: as many as it says or as 32 bits keep of that, where there is room, and at times one more or less. */
+/* The bytes of a record: as many as it says or as 32 bits keep of that, where there is room, and at times one more or less, or as
+ * many as there would be without tails. */
 static size_t choose_length(const struct tuyrashka_canvas *c, size_t room)
 {
-    uint64_t exact = (uint64_t)c->width * c->height * pixel_bytes(c->format);
+    uint64_t exact = (uint64_t)(one_in(80) ? c->width : c->row) * c->height * pixel_bytes(c->format);
     size_t length = exact <= room ? exact : (uint32_t)exact <= room ? (uint32_t)exact : below(64);
     if (one_in(40) && length < room)
         return length + 1;
@@ -225,12 +241,12 @@ static void held(int32_t from, uint32_t length, uint32_t side, int64_t *start, i
         *end = *start;
 }
 
-/* Whether the pixels outside the clip are as they were; how many are inside. */
+/* Whether the pixels outside the clip, and the tails, are as they were; how many are inside. */
 static bool clip_kept(int64_t *inside)
 {
     const struct tuyrashka_canvas *c = &canvas.record;
     const struct arena *a = canvas.bytes;
-    size_t pixel = pixel_bytes(c->format), row = c->width * pixel;
+    size_t pixel = pixel_bytes(c->format), row = c->row * pixel;
     int64_t left, right, top, bottom;
     held(clip.x, clip.width, c->width, &left, &right);
     held(clip.y, clip.height, c->height, &top, &bottom);
@@ -277,7 +293,7 @@ static void judge(int function, uint32_t status)
     expect(outside_kept(&drawn_lent), "bytes beside the answer have changed");
     expect(status == TUYRASHKA_OK || drawn.landed == 0, "refused, and something landed");
     expect(drawn.landed != 0 || lent_kept(canvas.bytes), "nothing landed, and bytes have changed");
-    expect(status != TUYRASHKA_OK || clip_kept(&inside), "bytes outside the clip have changed");
+    expect(status != TUYRASHKA_OK || clip_kept(&inside), "bytes outside the clip or in a tail have changed");
     expect(!functions[function].once || drawn.landed <= (uint64_t)inside, "more landed than the clip has");
     count(status, drawn.landed != 0);
 }

@@ -25,47 +25,62 @@ static void store(const void *byte)
     *(volatile uint8_t *)byte = 0;
 }
 
+static size_t pixel_bytes(const struct tuyrashka_canvas *canvas)
+{
+    return canvas->format == TUYRASHKA_RGB332 ? 1 : canvas->format == TUYRASHKA_RGB565 ? 2 : 4;
+}
+
+/* The bytes of its rows. */
+static size_t exact_bytes(const struct tuyrashka_canvas *canvas)
+{
+    return (size_t)canvas->row * canvas->height * pixel_bytes(canvas);
+}
+
 /* Declares the library's function, and puts one before it. */
 #define BEFORE(name, ...)                          \
     uint32_t __real_tuyrashka_##name(__VA_ARGS__); \
     uint32_t __wrap_tuyrashka_##name(__VA_ARGS__); \
     uint32_t __wrap_tuyrashka_##name(__VA_ARGS__)
 
-/* 1: a byte past the end is stored. */
+/* 1: a byte past the end is stored. 21: a byte of the first tail is. */
 BEFORE(put_pixel, CANVAS, CORNER, uint32_t argb, REST)
 {
     uint32_t status = __real_tuyrashka_put_pixel(canvas, data, data_len, x, y, argb, clip, drawn);
     if (is(1) && drawn->landed != 0)
         store(data + data_len);
+    if (is(21) && drawn->landed != 0 && canvas->row > canvas->width)
+        data[canvas->width * pixel_bytes(canvas)]++;
     return status;
 }
 
 /* 2: a length is tested wrongly, so that one byte too few passes. 3: and one too many. */
 BEFORE(draw_line, CANVAS, CORNER, int32_t x2, int32_t y2, uint32_t argb, REST)
 {
-    size_t pixel = canvas->format == TUYRASHKA_RGB332 ? 1 : canvas->format == TUYRASHKA_RGB565 ? 2 : 4;
-    size_t exact = (size_t)canvas->width * canvas->height * pixel;
+    size_t exact = exact_bytes(canvas);
     bool passes = (is(2) && data_len + 1 == exact) || (is(3) && data_len == exact + 1);
     return __real_tuyrashka_draw_line(canvas, data, passes ? exact : data_len, x, y, x2, y2, argb, clip, drawn);
 }
 
-/* 4: the count stays as it was on a refusal. */
+/* 4: the count stays as it was on a refusal. 22: the length is that of the width. */
 BEFORE(draw_rect, CANVAS, BOX, uint32_t argb, REST)
 {
     uint64_t before = drawn->landed;
-    uint32_t status = __real_tuyrashka_draw_rect(canvas, data, data_len, x, y, w, h, argb, clip, drawn);
+    struct tuyrashka_canvas narrow = *canvas;
+    narrow.row = narrow.width;
+    const struct tuyrashka_canvas *taken = is(22) && data_len == exact_bytes(&narrow) ? &narrow : canvas;
+    uint32_t status = __real_tuyrashka_draw_rect(taken, data, data_len, x, y, w, h, argb, clip, drawn);
     if (is(4) && status != TUYRASHKA_OK)
         drawn->landed = before;
     return status;
 }
 
-/* 5: a byte before the first is stored. */
+/* 5: a byte before the first is stored. 23: a row that is one too long passes. */
 BEFORE(fill_rect, CANVAS, BOX, uint32_t argb, REST)
 {
     uint32_t status = __real_tuyrashka_fill_rect(canvas, data, data_len, x, y, w, h, argb, clip, drawn);
     if (is(5) && drawn->landed != 0)
         store(data - 1);
-    return status;
+    return is(23) && status == TUYRASHKA_ROW && canvas->row == 32768 ? TUYRASHKA_OK : status;
 }
 
 /* 6: an angle of 721 passes. */
@@ -100,11 +115,12 @@ BEFORE(fill_round_rect, CANVAS, BOX, uint32_t arc_w, uint32_t arc_h, uint32_t ar
     return __real_tuyrashka_fill_round_rect(canvas, data, data_len, x, y, held, h, arc_w, arc_h, argb, clip, drawn);
 }
 
-/* 10: the clip is forgotten. */
+/* 10: the clip is forgotten. 24: the row is judged behind the length. */
 BEFORE(invert_rect, CANVAS, BOX, REST)
 {
     static const struct tuyrashka_clip whole = {0, 0, UINT32_MAX, UINT32_MAX};
-    return __real_tuyrashka_invert_rect(canvas, data, data_len, x, y, w, h, is(10) ? &whole : clip, drawn);
+    uint32_t status = __real_tuyrashka_invert_rect(canvas, data, data_len, x, y, w, h, is(10) ? &whole : clip, drawn);
+    return is(24) && status == TUYRASHKA_ROW && data_len != exact_bytes(canvas) ? TUYRASHKA_LENGTH : status;
 }
 
 /* 11: the caller's record is written. */
@@ -115,7 +131,7 @@ BEFORE(copy_area, CANVAS, CORNER, int32_t sx, int32_t sy, uint32_t w, uint32_t h
     return __real_tuyrashka_copy_area(canvas, data, data_len, x, y, sx, sy, w, h, clip, drawn);
 }
 
-/* 12: a byte behind the image is read. 13: the image is written. */
+/* 12: a byte behind the image is read. 13: the image is written. 25: its row has a number of its own. */
 BEFORE(draw, CANVAS, BOX, const struct tuyrashka_canvas *source, const uint8_t *image, size_t image_len, int32_t sx, int32_t sy,
        REST)
 {
@@ -124,10 +140,10 @@ BEFORE(draw, CANVAS, BOX, const struct tuyrashka_canvas *source, const uint8_t *
         touch(image + image_len);
     if (is(13) && drawn->landed != 0)
         store(image);
-    return status;
+    return is(25) && status == TUYRASHKA_SOURCE && source->row < source->width ? TUYRASHKA_ROW : status;
 }
 
-/* 14: a byte is read before the length is judged. 15: off the canvas there is a colour. */
+/* 14: a byte is read before the length is judged. 15: off the canvas there is a colour. 26: a tail is on the canvas. */
 BEFORE(get_pixel, const struct tuyrashka_canvas *canvas, const uint8_t *data, size_t data_len, CORNER, bool *found,
        uint32_t *argb)
 {
@@ -136,6 +152,8 @@ BEFORE(get_pixel, const struct tuyrashka_canvas *canvas, const uint8_t *data, si
         touch(data);
     if (is(15) && !*found)
         *argb = 0xFF000000u;
+    if (is(26) && status == TUYRASHKA_OK && (uint32_t)x < canvas->row && (uint32_t)y < canvas->height)
+        *found = true;
     return status;
 }
 

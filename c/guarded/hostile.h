@@ -35,7 +35,7 @@ void intersect_once(void);
 void decode_lbmp_once(void);
 void decode_res_once(void);
 
-/* Calls on a canvas of 32,767 by 32,767 in every format. */
+/* Calls on a canvas of 32,767 rows of 32,767 pixels in every format. */
 void draw_on_largest(void);
 
 void make_drawing_arenas(void);

@@ -1,4 +1,5 @@
-/* The largest canvas, 32,767 by 32,767, in every format: its last pixel ends at a guard, 4,294,705,156 bytes behind the first. */
+/* The largest canvas, 32,767 rows of 32,767 pixels, in every format, without tails and with the right half of each row as its
+ * tail: the last row ends at a guard, 4,294,705,156 bytes behind the first byte. */
 #include "hostile.h"
 
 #define SIDE 32767
@@ -7,15 +8,15 @@ static struct tuyrashka_canvas board;
 
 static void show_board(void)
 {
-    printf("  a canvas of format %u, %u by %u\n", board.format, board.width, board.height);
+    printf("  a canvas of format %u, %u by %u, rows of %u\n", board.format, board.width, board.height, board.row);
 }
 
 /* The calls at a corner, each of which lands so many plots there. The last leave white, and its lowest byte is 255 in every
  * format. */
 static void draw_at(uint8_t *data, size_t length, int32_t x, int32_t y)
 {
-    static const struct tuyrashka_canvas dot = {TUYRASHKA_RGB332, 2, 2, 0};
-    static const uint8_t pixels[4] = {0xE0, 0xFF, 0x03, 0x1C};
+    static const struct tuyrashka_canvas dot = {TUYRASHKA_RGB332, 2, 2, 0, 3};
+    static const uint8_t pixels[6] = {0xE0, 0xFF, 0, 0x03, 0x1C, 0};
     const struct tuyrashka_clip k = {x, y, 2, 2};
     struct tuyrashka_drawn d;
     bool found;
@@ -51,10 +52,12 @@ void draw_on_largest(void)
     for (uint32_t format = TUYRASHKA_RGB332; format <= TUYRASHKA_ABGR; format++) {
         size_t length = (size_t)SIDE * SIDE * (format == TUYRASHKA_RGB332 ? 1 : format == TUYRASHKA_RGB565 ? 2 : 4);
         uint8_t *data = guarded(-1, length, PROT_READ | PROT_WRITE);
-        struct tuyrashka_canvas largest = {format, SIDE, SIDE, 0};
-        board = largest;
-        draw_at(data, length, SIDE - 2, SIDE - 2);
-        draw_at(data, length, 0, 0);
+        for (uint32_t width = SIDE; width >= SIDE / 2; width -= SIDE / 2) {
+            struct tuyrashka_canvas largest = {format, width, SIDE, 0, SIDE};
+            board = largest;
+            draw_at(data, length, (int32_t)width - 2, SIDE - 2);
+            draw_at(data, length, 0, 0);
+        }
         munmap((void *)((uintptr_t)data / PAGE * PAGE), length);
     }
 }

@@ -44,13 +44,17 @@ struct List {
 }
 
 impl List {
+    /// In four of ten rows have tails, and images likewise. Rows are by another chance, so that a seed's calls stay the same.
     fn random(chance: &mut Chance) -> List {
+        let mut rows = chance.apart();
         let (format, w, h) = (chance.from(0, 4), side(chance), side(chance));
-        let head = format!("{format} {w} {h} 1 {}", chance.from(0, u32::MAX.into()));
+        let row = if rows.from(1, 10) <= 4 { format!(" row={}", w + rows.from(1, 9)) } else { String::new() };
+        let head = format!("{format} {w} {h} 1 {}{row}", chance.from(0, u32::MAX.into()));
         let order: Vec<usize> = (0..chance.from(2, 12) as usize).collect();
         let line = |_: &usize| {
             let op = chance.pick(&OPS);
-            format!("{head} {op} {}", chance.args(op, w, h))
+            let args = chance.args(op, w, h);
+            format!("{head} {op} {}", if op == "draw" { rows.with_image_row(&args) } else { args })
         };
         let lines: Vec<String> = order.iter().map(line).collect();
         let cases: Vec<Case> = lines.iter().map(|line| Case::read(line.as_bytes()).expect("a case")).collect();
@@ -133,6 +137,8 @@ struct Tally {
     seen: u64,
     /// Lists that leave other bytes than the first even when they are taken away.
     stained: u64,
+    /// Lists on rows with tails.
+    tailed: u64,
 }
 
 impl Tally {
@@ -149,6 +155,9 @@ impl Tally {
         let expected = list.expected();
         let settled = list.settled();
         self.count(&expected, first != *bytes, settled != *bytes);
+        self.tailed += (list.screen.row > list.screen.width) as u64;
+        let tails_kept = list.screen.put_back(&list.screen_of(&first).cut_out()) == first;
+        hold(tails_kept, "ours changes a tail")?;
         hold(first == theirs, "ours leaves other bytes than the Rust")?;
         hold(answers == expected, "ours answers otherwise than the Rust")?;
         hold(list.ours(other, &first).0 == settled, "ours does not take the list away")?;
@@ -165,10 +174,10 @@ impl Tally {
     }
 
     fn say(&self, seed: u64, failed: u64) {
-        let Tally { lists, calls, refused, plots, seen, stained } = self;
+        let Tally { lists, calls, refused, plots, seen, stained, tailed } = self;
         println!(
-            "{lists} lists (seed {seed}) in two orders and twice: {calls} calls, {refused} of them refused, {plots} plots landed, \
-             {seen} lists seen, {stained} leave a stain; {failed} lists fail"
+            "{lists} lists (seed {seed}) in two orders and twice, {tailed} of them on rows with tails: {calls} calls, {refused} \
+             of them refused, {plots} plots landed, {seen} lists seen, {stained} leave a stain; {failed} lists fail"
         );
     }
 }

@@ -10,14 +10,15 @@ pub fn rust<'a>(screen: &Screen, calls: impl Iterator<Item = &'a Call>) -> Vec<u
     let mut canvas = canvas(screen);
     canvas.set_xor_mode(true);
     calls.filter(|call| refusal(screen, call) == 0).for_each(|call| paint(&mut *canvas, call));
-    canvas.image().raw().into_owned()
+    screen.put_back(&canvas.image().raw())
 }
 
 /// A screen that keeps where it was XORed and where it was inverted, with XOR on: a plot of another alpha than 0 XORs,
-/// and an inversion puts.
+/// and an inversion puts. Tails have their places too.
 pub struct Marks {
     width: u32,
     height: u32,
+    row: u32,
     pub xored: Vec<bool>,
     pub inverted: Vec<bool>,
 }
@@ -25,16 +26,16 @@ pub struct Marks {
 impl Marks {
     /// The marks of calls; what we refuse is passed over.
     pub fn of(screen: &Screen, calls: &[Call]) -> Marks {
-        let Screen { width, height, .. } = *screen;
-        let none = vec![false; width as usize * height as usize];
-        let mut canvas = ImageBufferCanvas::new(Marks { width, height, xored: none.clone(), inverted: none });
+        let Screen { width, height, row, .. } = *screen;
+        let none = vec![false; row as usize * height as usize];
+        let mut canvas = ImageBufferCanvas::new(Marks { width, height, row, xored: none.clone(), inverted: none });
         canvas.set_xor_mode(true);
         calls.iter().filter(|call| refusal(screen, call) == 0).for_each(|call| paint(&mut canvas, call));
         canvas.into_inner()
     }
 
     fn place(&self, x: i32, y: i32) -> usize {
-        y as usize * self.width as usize + x as usize
+        y as usize * self.row as usize + x as usize
     }
 }
 

@@ -39,7 +39,7 @@ fn answered(case: &Case) -> String {
     let mut canvas = canvas(screen);
     canvas.set_xor_mode(*xor);
     paint(&mut *canvas, call);
-    format!("{op} status=0 count={} hash={:016x}", landed(screen, call), hash(&canvas.image().raw()))
+    format!("{op} status=0 count={} hash={:016x}", landed(screen, call), hash(&screen.put_back(&canvas.image().raw())))
 }
 
 /// The Rust has no count. With XOR off each plot that lands is put once, whatever its colour, so the same call is made on
@@ -96,6 +96,7 @@ fn read_res(file: &[u8]) -> String {
     format!("res status={status} w={width} h={height} at={at} hash={:016x}", hash(&pixels))
 }
 
+/// The Rust knows no tails: its canvas is cut out of the screen.
 pub fn canvas(screen: &Screen) -> Box<dyn Canvas> {
     match screen.format {
         0 => canvas_of::<Rgb332Pixel>(screen),
@@ -108,11 +109,12 @@ pub fn canvas(screen: &Screen) -> Box<dyn Canvas> {
 }
 
 fn canvas_of<P: PixelType + 'static>(screen: &Screen) -> Box<dyn Canvas> {
-    let words = bytemuck::pod_collect_to_vec(&screen.bytes);
+    let words = bytemuck::pod_collect_to_vec(&screen.cut_out());
     Box::new(ImageBufferCanvas::new(VecImageBuffer::<P>::from_raw(screen.width, screen.height, words)))
 }
 
-/// The refusals have no counterpart in the Rust: the lowest number that holds.
+/// The refusals have no counterpart in the Rust: the first that holds, in the order FORMAT, SIZE, ROW, LENGTH, SOURCE, ANGLE,
+/// SHAPE.
 pub fn refusal(screen: &Screen, call: &Call) -> u32 {
     let side = |n: u32| n <= 32_767;
     let corner = |n: i32| (-32_768..=32_767).contains(&n);
@@ -122,7 +124,10 @@ pub fn refusal(screen: &Screen, call: &Call) -> u32 {
         if !side(s.width) || !side(s.height) {
             return 2;
         }
-        if s.bytes.len() as u64 != s.width as u64 * s.height as u64 * size as u64 { 3 } else { 0 }
+        if s.row < s.width || !side(s.row) {
+            return 18;
+        }
+        if s.bytes.len() as u64 != s.row as u64 * s.height as u64 * size as u64 { 3 } else { 0 }
     };
     let shape = |Area(x, y, w, h): Area| if corner(x) && corner(y) && side(w) && side(h) { 0 } else { 6 };
 

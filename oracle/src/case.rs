@@ -1,5 +1,7 @@
 //! A case as it is read from its line.
 
+use std::iter::Peekable;
+
 use crate::canvas::{Clip, Color};
 
 /// The longest line that is read, without its end.
@@ -12,7 +14,37 @@ pub struct Screen {
     pub format: u32,
     pub width: u32,
     pub height: u32,
+    /// The length of a row in pixels. What it has beyond the width is its tail.
+    pub row: u32,
     pub bytes: Vec<u8>,
+}
+
+impl Screen {
+    /// The bytes of a row, and those of its pixels that are not its tail.
+    fn lengths(&self) -> (usize, usize) {
+        let size = pixel_size(self.format).expect("a format") as usize;
+        (self.row as usize * size, self.width as usize * size)
+    }
+
+    /// The bytes without the tails, of a screen that is not refused.
+    pub fn cut_out(&self) -> Vec<u8> {
+        let (row, seen) = self.lengths();
+        if row == seen {
+            self.bytes.clone()
+        } else {
+            self.bytes.chunks_exact(row).flat_map(|row| &row[..seen]).copied().collect()
+        }
+    }
+
+    /// The bytes where those without the tails are these, and the tails as they were.
+    pub fn put_back(&self, cut: &[u8]) -> Vec<u8> {
+        let (row, seen) = self.lengths();
+        let mut bytes = self.bytes.clone();
+        if seen > 0 {
+            bytes.chunks_exact_mut(row).zip(cut.chunks_exact(seen)).for_each(|(row, cut)| row[..seen].copy_from_slice(cut));
+        }
+        bytes
+    }
 }
 
 /// x, y, width, height.
@@ -50,7 +82,7 @@ impl Case {
         if line.len() > LINE {
             return None;
         }
-        let mut words = Words(line.split(|&b| b == b' '));
+        let mut words = Words(line.split(|&b| b == b' ').peekable());
         let (format, width, height) = words.sizes()?;
         let xor = words.at_most(1)? == 1;
         let screen = words.screen(format, width, height)?;
@@ -60,9 +92,9 @@ impl Case {
     }
 }
 
-struct Words<'a, F: FnMut(&u8) -> bool>(std::slice::Split<'a, u8, F>);
+struct Words<'a, I: Iterator<Item = &'a [u8]>>(Peekable<I>);
 
-impl<F: FnMut(&u8) -> bool> Words<'_, F> {
+impl<'a, I: Iterator<Item = &'a [u8]>> Words<'a, I> {
     fn call(&mut self, op: &str) -> Option<Call> {
         Some(match op {
             "put" => Call::Put { x: self.signed()?, y: self.signed()?, color: self.color()?, clip: self.clip()? },
@@ -94,21 +126,30 @@ impl<F: FnMut(&u8) -> bool> Words<'_, F> {
         })
     }
 
-    /// The screen whose seed is the next word.
+    /// The screen whose seed is the next word, and whose row the one behind it, if that is a row.
     fn screen(&mut self, format: u32, width: u32, height: u32) -> Option<Screen> {
-        let bytes = match self.0.next()? {
+        let seed = self.0.next()?;
+        let row = self.row().unwrap_or(width);
+        let bytes = match seed {
             [b'x', digits @ ..] => hex(digits)?,
-            b"z" => vec![0; room(format, width, height)?],
+            b"z" => vec![0; room(format, row, height)?],
             digits => {
                 let mut s = decimal(digits)? as u32;
                 let step = |_| {
                     s = s.wrapping_mul(1_664_525).wrapping_add(1_013_904_223);
                     (s >> 24) as u8
                 };
-                (0..room(format, width, height)?).map(step).collect()
+                (0..room(format, row, height)?).map(step).collect()
             }
         };
-        (bytes.len() as u128 <= ROOM).then_some(Screen { format, width, height, bytes })
+        (bytes.len() as u128 <= ROOM).then_some(Screen { format, width, height, row, bytes })
+    }
+
+    /// The number of `row=N`. What is no such word is left.
+    fn row(&mut self) -> Option<u32> {
+        let row = decimal(self.0.peek()?.strip_prefix(b"row=")?)? as u32;
+        self.0.next();
+        Some(row)
     }
 
     /// A file's bytes.
@@ -187,7 +228,7 @@ pub fn pixel_size(format: u32) -> Option<u32> {
 }
 
 /// How many bytes `z` or a number makes.
-fn room(format: u32, width: u32, height: u32) -> Option<usize> {
-    let bytes = width as u128 * height as u128 * pixel_size(format)? as u128;
+fn room(format: u32, row: u32, height: u32) -> Option<usize> {
+    let bytes = row as u128 * height as u128 * pixel_size(format)? as u128;
     (bytes <= ROOM).then_some(bytes as usize)
 }

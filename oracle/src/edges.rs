@@ -60,7 +60,11 @@ pub fn directions(reach: i64) -> impl Iterator<Item = Direction> + Send {
     all.filter(|d| d.right * d.right + d.up * d.up >= 4 && d.beside() <= NEAR)
 }
 
-/// Their pies.
+/// Their pies; every third has a canvas with a tail, of one pixel to nine.
 pub fn cases(reach: i64) -> impl Iterator<Item = String> + Send {
-    directions(reach).flat_map(Direction::pies)
+    let with_row = |(n, pie): (usize, String)| match n % 3 {
+        0 => pie.replacen(" z ", &format!(" z row={} ", 2 + n / 3 % 9), 1),
+        _ => pie,
+    };
+    directions(reach).flat_map(Direction::pies).enumerate().map(with_row)
 }

@@ -9,6 +9,7 @@ pub struct Canvas {
     pub width: u32,
     pub height: u32,
     pub xor_mode: u32,
+    pub row: u32,
 }
 
 #[repr(C)]

@@ -1,4 +1,5 @@
-//! The fixed list of cases: the edges first and in order, then the colours, then some random ones.
+//! The fixed list of cases: the edges first and in order, then the colours, then some random ones; and behind them rows of other
+//! lengths than the width.
 
 mod boxes;
 mod curves;
@@ -6,6 +7,7 @@ mod files;
 mod icons;
 mod images;
 mod lines;
+mod rows;
 
 use std::collections::HashSet;
 
@@ -54,6 +56,7 @@ pub fn fixed(ops: &[&'static str]) -> Vec<String> {
     }
     unreadable(&mut list);
     list.extend(Cases::new(300, 1, ops).filter(|case| case.len() <= 200));
+    rows::rows(ops, &mut list);
     let mut seen = HashSet::new();
     list.retain(|case| seen.insert(case.clone()));
     list

@@ -26,11 +26,11 @@ fn main() -> ExitCode {
     let words: Vec<&str> = words.iter().map(String::as_str).collect();
     match words[..] {
         [] => answers(),
-        ["random", n, seed, list] => write(random::Cases::new(number(n), number(seed), &ops(list))),
+        ["random", n, seed, list] => write(random::Cases::new(number(n), number(seed), &ops(list)).with_rows()),
         ["fixed", list] => write(fixed::fixed(&ops(list)).into_iter()),
         ["edges", reach] => write(edges::cases(number(reach) as i64)),
         ["compare", "random", n, seed, list, port, checked, unchecked] => {
-            let cases = || random::Cases::new(number(n), number(seed), &ops(list));
+            let cases = || random::Cases::new(number(n), number(seed), &ops(list)).with_rows();
             return compare(&format!("cases of {list} (seed {seed})"), cases, [port, checked, unchecked]);
         }
         ["compare", "edges", reach, port, checked, unchecked] => {

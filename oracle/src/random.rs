@@ -3,6 +3,7 @@
 mod curves;
 mod icons;
 mod lines;
+mod rows;
 
 use crate::case::pixel_size;
 
@@ -17,13 +18,20 @@ const HALF: i64 = 1 << 31;
 /// The cases that a seed gives, the same in each run.
 pub struct Cases {
     chance: Chance,
+    /// What rows are by, where there are any.
+    rows: Option<Chance>,
     ops: Vec<&'static str>,
     left: u64,
 }
 
 impl Cases {
     pub fn new(n: u64, seed: u64, ops: &[&'static str]) -> Cases {
-        Cases { chance: Chance(seed), ops: ops.to_vec(), left: n }
+        Cases { chance: Chance(seed), rows: None, ops: ops.to_vec(), left: n }
+    }
+
+    /// The same cases, with rows in a good part of them.
+    pub fn with_rows(self) -> Cases {
+        Cases { rows: Some(self.chance.apart()), ..self }
     }
 }
 
@@ -34,6 +42,9 @@ impl Iterator for Cases {
         self.left = self.left.checked_sub(1)?;
         let op = self.chance.pick(&self.ops);
         let mut line = self.chance.case(op);
+        if let Some(rows) = &mut self.rows {
+            line = rows.with_rows(&line);
+        }
         if self.chance.percent(1) {
             self.chance.spoil(&mut line);
         }
@@ -55,6 +66,11 @@ impl Chance {
         let z = (self.0 ^ (self.0 >> 30)).wrapping_mul(0xbf58_476d_1ce4_e5b9);
         let z = (z ^ (z >> 27)).wrapping_mul(0x94d0_49bb_1331_11eb);
         z ^ (z >> 31)
+    }
+
+    /// Another one, which takes nothing from this.
+    pub fn apart(&self) -> Chance {
+        Chance(!self.0)
     }
 
     /// From a to b, both included.

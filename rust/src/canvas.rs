@@ -8,12 +8,15 @@ use super::{Clip, Color, Drawn, Format, Image, Refusal};
 
 /// Lent bytes, seen as width times height pixels in rows, with a switch for XOR.
 ///
+/// A row may be longer than the width ([`Canvas::with_row`]). What it has beyond that is its tail, which stays as it is in every
+/// call; a point there is off the canvas.
+///
 /// With XOR off a plot stores its colour. With XOR on a colour of alpha 0 changes nothing, and any other is XORed with the
 /// pixel; formats with alpha then have alpha 255.
 ///
-/// Each call judges the canvas, and is refused by [`Refusal::Size`] or [`Refusal::Length`]. [`Canvas::draw`] then judges the
-/// image ([`Refusal::Source`]), arcs and pies their angles ([`Refusal::Angle`]), and these and round boxes their box
-/// ([`Refusal::Shape`]). The first that holds is given, and the bytes stay as they were. Nothing else is refused.
+/// Each call judges the canvas, and is refused by [`Refusal::Size`], [`Refusal::Row`] or [`Refusal::Length`]. [`Canvas::draw`]
+/// then judges the image ([`Refusal::Source`]), arcs and pies their angles ([`Refusal::Angle`]), and these and round boxes their
+/// box ([`Refusal::Shape`]). The first in this order is given, and the bytes stay as they were. Nothing else is refused.
 ///
 /// ```
 /// use tuyrashka::{Canvas, Clip, Color, Format};
@@ -33,7 +36,24 @@ pub struct Canvas<'a> {
 impl<'a> Canvas<'a> {
     /// A canvas of these bytes, with XOR off. Whether they are as many as its pixels take is judged by each call.
     pub const fn new(format: Format, width: u32, height: u32, data: &'a mut [u8]) -> Canvas<'a> {
-        Canvas { record: Record { format, width, height, xor_mode: 0 }, data }
+        Canvas::with_row(format, width, height, width, data)
+    }
+
+    /// A canvas of these bytes, with XOR off, whose rows are `row` pixels long. Whether that is the width or more is judged by
+    /// each call. The bytes are those of `row` times `height` pixels.
+    ///
+    /// ```
+    /// use tuyrashka::{Canvas, Clip, Color, Format};
+    ///
+    /// let mut bytes = [1, 2, 3, 4, 5, 6, 7, 8];
+    /// let mut canvas = Canvas::with_row(Format::Rgb332, 3, 2, 4, &mut bytes);
+    /// assert_eq!(canvas.fill_rect(1, 0, 9, 9, Color::rgb(0, 0, 0), Clip::whole())?.landed, 4);
+    /// assert_eq!(canvas.get_pixel(3, 0)?, None);
+    /// assert_eq!(bytes, [1, 0, 0, 4, 5, 0, 0, 8]);
+    /// # Ok::<(), tuyrashka::Refusal>(())
+    /// ```
+    pub const fn with_row(format: Format, width: u32, height: u32, row: u32, data: &'a mut [u8]) -> Canvas<'a> {
+        Canvas { record: Record { format, width, height, xor_mode: 0, row }, data }
     }
 
     /// How a pixel is stored.
@@ -41,9 +61,14 @@ impl<'a> Canvas<'a> {
         self.record.format
     }
 
-    /// How many pixels a row has.
+    /// How many pixels a row has, without its tail.
     pub const fn width(&self) -> u32 {
         self.record.width
+    }
+
+    /// How many pixels a row has, with its tail.
+    pub const fn row(&self) -> u32 {
+        self.record.row
     }
 
     /// How many rows there are.
@@ -61,12 +86,12 @@ impl<'a> Canvas<'a> {
         self.record.xor_mode = on as u32;
     }
 
-    /// The bytes of the pixels.
+    /// The bytes of the pixels, with those of the tails.
     pub const fn data(&self) -> &[u8] {
         self.data
     }
 
-    /// The bytes of the pixels, to be changed.
+    /// The same bytes, to be changed.
     pub const fn data_mut(&mut self) -> &mut [u8] {
         self.data
     }
@@ -155,9 +180,9 @@ impl Canvas<'_> {
 /// Without the bytes: of them, how many there are.
 impl Debug for Canvas<'_> {
     fn fmt(&self, f: &mut Formatter) -> Written {
-        let Record { format, width, height, .. } = &self.record;
+        let Record { format, width, height, row, .. } = &self.record;
         let mut canvas = f.debug_struct("Canvas");
-        canvas.field("format", format).field("width", width).field("height", height).field("xor", &self.xor());
-        canvas.field("bytes", &self.data.len()).finish()
+        canvas.field("format", format).field("width", width).field("height", height).field("row", row);
+        canvas.field("xor", &self.xor()).field("bytes", &self.data.len()).finish()
     }
 }

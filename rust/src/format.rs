@@ -33,7 +33,7 @@ impl Format {
         self as u32
     }
 
-    /// How many bytes a canvas of these sides has.
+    /// How many bytes a canvas of these sides has. Where its rows have tails, the length of a row stands for the width.
     pub const fn bytes(self, width: u32, height: u32) -> usize {
         let pixel = match self {
             Format::Rgb332 => 1,

@@ -7,7 +7,8 @@ use super::raw::{self, Record};
 use super::refusal::result;
 use super::{Color, Format, Refusal};
 
-/// Lent bytes that are only read, seen as width times height pixels in rows.
+/// Lent bytes that are only read, seen as width times height pixels in rows, which may have tails as those of a
+/// [`Canvas`](super::Canvas) may.
 ///
 /// ```
 /// use tuyrashka::{Canvas, Clip, Format, Image};
@@ -29,7 +30,12 @@ pub struct Image<'a> {
 impl<'a> Image<'a> {
     /// An image of these bytes. Whether they are as many as its pixels take is judged by the calls that it is given to.
     pub const fn new(format: Format, width: u32, height: u32, data: &'a [u8]) -> Image<'a> {
-        Image { record: Record { format, width, height, xor_mode: 0 }, data }
+        Image::with_row(format, width, height, width, data)
+    }
+
+    /// An image of these bytes, whose rows are `row` pixels long. Whether that is the width or more is judged likewise.
+    pub const fn with_row(format: Format, width: u32, height: u32, row: u32, data: &'a [u8]) -> Image<'a> {
+        Image { record: Record { format, width, height, xor_mode: 0, row }, data }
     }
 
     /// An image of ARGB words, as [`decode_lbmp`](super::decode_lbmp) writes them.
@@ -44,9 +50,14 @@ impl<'a> Image<'a> {
         self.record.format
     }
 
-    /// How many pixels a row has.
+    /// How many pixels a row has, without its tail.
     pub const fn width(&self) -> u32 {
         self.record.width
+    }
+
+    /// How many pixels a row has, with its tail.
+    pub const fn row(&self) -> u32 {
+        self.record.row
     }
 
     /// How many rows there are.
@@ -54,7 +65,7 @@ impl<'a> Image<'a> {
         self.record.height
     }
 
-    /// The bytes of the pixels.
+    /// The bytes of the pixels, with those of the tails.
     pub const fn data(&self) -> &'a [u8] {
         self.data
     }
@@ -72,8 +83,9 @@ impl<'a> Image<'a> {
 /// Without the bytes: of them, how many there are.
 impl Debug for Image<'_> {
     fn fmt(&self, f: &mut Formatter) -> Written {
-        let Record { format, width, height, .. } = &self.record;
+        let Record { format, width, height, row, .. } = &self.record;
         let mut image = f.debug_struct("Image");
-        image.field("format", format).field("width", width).field("height", height).field("bytes", &self.data.len()).finish()
+        image.field("format", format).field("width", width).field("height", height).field("row", row);
+        image.field("bytes", &self.data.len()).finish()
     }
 }

@@ -10,6 +10,7 @@ pub struct Record {
     pub width: u32,
     pub height: u32,
     pub xor_mode: u32,
+    pub row: u32,
 }
 
 /// What a call may touch: columns from `x` up to but not including `x + width`, and rows likewise, without wrap. It may lie

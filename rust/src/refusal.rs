@@ -13,7 +13,7 @@ macro_rules! refusals {
         /// let mut canvas = Canvas::new(Format::Rgb332, 4, 4, &mut []);
         /// let refusal = canvas.put_pixel(0, 0, Color::rgb(255, 0, 0), Clip::whole()).unwrap_err();
         /// assert_eq!((refusal, refusal.number()), (Refusal::Length, 3));
-        /// assert_eq!(refusal.to_string(), "the lent bytes are not those of the canvas's pixels");
+        /// assert_eq!(refusal.to_string(), "the lent bytes are not those of the canvas's rows");
         /// ```
         #[derive(Clone, Copy, Debug, PartialEq, Eq, Hash)]
         #[non_exhaustive]
@@ -44,8 +44,8 @@ macro_rules! refusals {
 refusals! {
     Format = 1, "there is no such format";
     Size = 2, "a side of the canvas is above 32,767";
-    Length = 3, "the lent bytes are not those of the canvas's pixels";
-    Source = 4, "the image to draw has a side above 32,767, or its bytes are not those of its pixels";
+    Length = 3, "the lent bytes are not those of the canvas's rows";
+    Source = 4, "the image to draw has a side above 32,767, a row that is refused, or bytes that are not those of its rows";
     Angle = 5, "an angle is outside -720 to 720";
     Shape = 6, "a corner of the shape is outside -32,768 to 32,767, or a side is above 32,767";
     Invalid = 10, "the file is not a whole LBMP image";
@@ -55,6 +55,7 @@ refusals! {
     Depth = 14, "the depth of an icon is not 8";
     ResType = 15, "the type of an icon is not 2 or 3";
     NoIcon = 16, "the RES file ends before a static icon";
+    Row = 18, "the row of the canvas is below its width or above 32,767";
 }
 
 impl Refusal {

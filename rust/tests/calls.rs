@@ -3,6 +3,7 @@
 #![forbid(unsafe_code)]
 
 use std::error::Error;
+use std::ops::Range;
 
 use tuyrashka::Format::{Abgr, Argb, Rgb8, Rgb332, Rgb565};
 use tuyrashka::{Canvas, Clip, Color, Drawn, Format, Image, Refusal, decode_lbmp, decode_res};
@@ -10,6 +11,7 @@ use tuyrashka::{Canvas, Clip, Color, Drawn, Format, Image, Refusal, decode_lbmp,
 type Answer = Result<Drawn, Refusal>;
 
 const WHITE: Color = Color::rgb(255, 255, 255);
+const FORMATS: [Format; 5] = [Rgb332, Rgb565, Rgb8, Argb, Abgr];
 
 fn landed(answer: Answer) -> Result<u64, Refusal> {
     answer.map(|drawn| drawn.landed)
@@ -27,6 +29,11 @@ fn on_black(width: u32, height: u32, call: impl Fn(&mut Canvas) -> Answer) -> (R
     (landed(call(&mut Canvas::new(Rgb332, width, height, &mut data))), data)
 }
 
+/// Where the pixels of a box stand among those of rows so long.
+fn places(row: usize, columns: Range<usize>, rows: Range<usize>) -> impl Iterator<Item = usize> {
+    rows.flat_map(move |y| columns.clone().map(move |x| row * y + x))
+}
+
 #[test]
 fn a_box_is_shown_and_taken_away() -> Result<(), Box<dyn Error>> {
     let mut bytes = vec![0; Format::Rgb565.bytes(240, 320)];
@@ -40,35 +47,34 @@ fn a_box_is_shown_and_taken_away() -> Result<(), Box<dyn Error>> {
     Ok(())
 }
 
-/// Where a format keeps alpha, it is 255 after, just where the box was.
+/// With tails and without. Where a format keeps alpha, it is 255 after, just where the box was.
 #[test]
 fn xor_is_undone_in_every_format() {
-    for format in [Rgb332, Rgb565, Rgb8, Argb, Abgr] {
-        let mut before = noise(format.bytes(9, 7));
+    for (format, row) in FORMATS.into_iter().flat_map(|format| [(format, 9), (format, 12)]) {
+        let mut before = noise(format.bytes(row, 7));
         let mut data = before.clone();
         let mut draw = || {
-            let mut canvas = Canvas::new(format, 9, 7, &mut data);
+            let mut canvas = Canvas::with_row(format, 9, 7, row, &mut data);
             canvas.set_xor(true);
             assert_eq!(landed(canvas.fill_rect(-1, 2, 5, 9, WHITE, Clip::new(0, 0, 9, 6))), Ok(16));
             data.clone()
         };
         assert_ne!(draw(), before);
         if format == Argb || format == Abgr {
-            let boxed = (2..6).flat_map(|y| (0..4).map(move |x| 9 * y + x));
-            boxed.for_each(|pixel| before[4 * pixel + 3] = 255);
+            places(row as usize, 0..4, 2..6).for_each(|pixel| before[4 * pixel + 3] = 255);
         }
         assert_eq!(draw(), before);
     }
 }
 
 /// A menu bar is an inversion. A box over it may come before it or after, and again in any order both are taken away, but that
-/// alpha is 255 where the box was, and Rgb8's top byte 0 where the bar was.
+/// alpha is 255 where the box was, and Rgb8's top byte 0 where the bar was; with tails and without.
 #[test]
 fn a_bar_and_a_box_come_in_any_order() {
-    for format in [Rgb332, Rgb565, Rgb8, Argb, Abgr] {
-        let mut before = noise(format.bytes(9, 7));
+    for (format, row) in FORMATS.into_iter().flat_map(|format| [(format, 9), (format, 12)]) {
+        let mut before = noise(format.bytes(row, 7));
         let draw = |data: &mut Vec<u8>, bar_first: bool| {
-            let mut canvas = Canvas::new(format, 9, 7, data);
+            let mut canvas = Canvas::with_row(format, 9, 7, row, data);
             canvas.set_xor(true);
             for bar in [bar_first, !bar_first] {
                 let drawn = match bar {
@@ -85,8 +91,8 @@ fn a_bar_and_a_box_come_in_any_order() {
         assert_ne!(one, before);
         draw(&mut one, false);
         match format {
-            Rgb8 => (45..63).for_each(|pixel| before[4 * pixel + 3] = 0),
-            Argb | Abgr => [42, 43, 51, 52].iter().for_each(|pixel| before[4 * pixel + 3] = 255),
+            Rgb8 => places(row as usize, 0..9, 5..7).for_each(|pixel| before[4 * pixel + 3] = 0),
+            Argb | Abgr => places(row as usize, 6..8, 4..6).for_each(|pixel| before[4 * pixel + 3] = 255),
             _ => (),
         }
         assert_eq!(one, before);
@@ -204,8 +210,9 @@ fn clips_are_intersected() {
 fn values_are_shown() {
     let mut data = [0; 8];
     let shown = format!("{:?}", Canvas::new(Rgb565, 2, 2, &mut data));
-    assert_eq!(shown, "Canvas { format: Rgb565, width: 2, height: 2, xor: false, bytes: 8 }");
-    assert_eq!(format!("{:?}", Image::new(Rgb332, 0, 3, &[])), "Image { format: Rgb332, width: 0, height: 3, bytes: 0 }");
+    assert_eq!(shown, "Canvas { format: Rgb565, width: 2, height: 2, row: 2, xor: false, bytes: 8 }");
+    let shown = format!("{:?}", Image::with_row(Rgb332, 0, 3, 1, &[7; 3]));
+    assert_eq!(shown, "Image { format: Rgb332, width: 0, height: 3, row: 1, bytes: 3 }");
     assert_eq!(format!("{:?}", Clip::new(-1, 0, 2, 3)), "Clip { x: -1, y: 0, width: 2, height: 3 }");
 }
 
@@ -229,9 +236,14 @@ const CALLS: [fn(&mut Canvas) -> Answer; 11] = [
 
 /// The number of a call on a canvas of noise, whose bytes are as before just where that is not 0.
 fn number(format: Format, [width, height]: [u32; 2], length: usize, call: impl Fn(&mut Canvas) -> Answer) -> u32 {
+    in_rows(format, [width, height, width], length, call)
+}
+
+/// The same where rows are so long.
+fn in_rows(format: Format, [width, height, row]: [u32; 3], length: usize, call: impl Fn(&mut Canvas) -> Answer) -> u32 {
     let before = noise(length);
     let mut data = before.clone();
-    let mut canvas = Canvas::new(format, width, height, &mut data);
+    let mut canvas = Canvas::with_row(format, width, height, row, &mut data);
     canvas.set_xor(true);
     let answer = call(&mut canvas);
     assert_eq!(answer.is_err(), data == before);
@@ -246,11 +258,116 @@ fn every_call_refuses_a_canvas() {
         assert_eq!([31, 32, 33].map(|length| number(Rgb565, [4, 4], length, call)), [3, 0, 3]);
         assert_eq!(number(Rgb565, [32_768, 1], 0, call), 2);
         assert_eq!(number(Rgb565, [1, 1], 0, call), 3);
-        for format in [Rgb332, Rgb565, Rgb8, Argb, Abgr] {
+        for format in FORMATS {
             let length = format.bytes(5, 3);
             assert_eq!([length - 1, length, length + 1].map(|length| number(format, [5, 3], length, call)), [3, 0, 3]);
         }
     }
+}
+
+/// ROW comes behind SIZE and before LENGTH, and bytes that fit the width, or lack the last tail, do not fit the row.
+#[test]
+fn every_call_refuses_a_row() {
+    for call in CALLS {
+        let tried = |row: u32| in_rows(Rgb332, [5, 3, row], 3 * row as usize, call);
+        assert_eq!([0, 4, 5, 6, 32_767, 32_768].map(tried), [18, 18, 0, 0, 0, 18]);
+        assert_eq!([4, 32_768, u32::MAX].map(|row| in_rows(Rgb332, [5, 3, row], 15, call)), [18; 3]);
+        assert_eq!([0, 32_768].map(|row| in_rows(Rgb332, [32_768, 1, row], 32_768, call)), [2; 2]);
+        for format in FORMATS {
+            let length = format.bytes(7, 3);
+            let lengths = [format.bytes(5, 3), length - format.bytes(2, 1), length - 1, length, length + 1];
+            assert_eq!(lengths.map(|length| in_rows(format, [5, 3, 7], length, call)), [3, 3, 3, 0, 3]);
+        }
+    }
+}
+
+/// A row of 0 is one of a canvas without columns; with tails such a canvas has bytes.
+#[test]
+fn a_canvas_without_columns_has_any_row() {
+    for call in CALLS {
+        for row in [0, 1, 4] {
+            let (before, mut data) = (noise(3 * row), noise(3 * row));
+            assert_eq!(landed(call(&mut Canvas::with_row(Rgb332, 0, 3, row as u32, &mut data))), Ok(0));
+            assert_eq!(data, before);
+        }
+    }
+}
+
+/// The first pixels of each row, and the others.
+fn cut(data: &[u8], row: usize, at: usize) -> [Vec<u8>; 2] {
+    let rows = || data.chunks_exact(row);
+    [rows().flat_map(|row| &row[..at]).copied().collect(), rows().flat_map(|row| &row[at..]).copied().collect()]
+}
+
+const TAILED: Image = Image::with_row(Argb, 2, 2, 3, b"\x01\x02\x03\xFFabc\x80tail\xC8\x64\x32\x01xyz\xFEtail");
+
+/// Every call that draws, to the right edge of a canvas of 9 by 7 and past it.
+const WIDE: [fn(&mut Canvas) -> Answer; 11] = [
+    |c| c.put_pixel(8, 6, WHITE, ALL),
+    |c| c.draw_line(-3, 1, 20, 5, WHITE, ALL),
+    |c| c.draw_rect(2, 1, 7, 6, WHITE, ALL),
+    |c| c.fill_rect(-1, -1, 20, 20, WHITE, ALL),
+    |c| c.draw_arc(0, 0, 9, 7, 0, 360, WHITE, ALL),
+    |c| c.fill_arc(2, 1, 12, 9, 0, 360, WHITE, ALL),
+    |c| c.draw_round_rect(1, 0, 9, 7, 4, 4, WHITE, ALL),
+    |c| c.fill_round_rect(3, -2, 12, 12, 5, 5, WHITE, ALL),
+    |c| c.invert_rect(4, 0, 99, 99, ALL),
+    |c| c.copy_area(2, 1, 0, 0, 9, 7, ALL),
+    |c| c.draw(7, 3, 9, 9, TAILED, 0, 0, ALL),
+];
+
+/// What is drawn where rows have tails is what is drawn on the canvas that is cut out, and the tails stay.
+#[test]
+fn tails_stay_as_they_are() {
+    for (format, xor) in FORMATS.into_iter().flat_map(|format| [(format, false), (format, true)]) {
+        for (row, call) in [10, 12, 31].into_iter().flat_map(|row| WIDE.map(|call| (row, call))) {
+            let [seen, whole] = [9, row].map(|width| format.bytes(width, 1));
+            let before = noise(7 * whole);
+            let mut data = before.clone();
+            let [mut plain, tails] = cut(&before, whole, seen);
+            let draw = |mut canvas: Canvas| {
+                canvas.set_xor(xor);
+                landed(call(&mut canvas))
+            };
+            let drawn = draw(Canvas::with_row(format, 9, 7, row, &mut data));
+            assert!(drawn.is_ok_and(|landed| landed > 0));
+            assert_eq!(drawn, draw(Canvas::new(format, 9, 7, &mut plain)));
+            assert_eq!(cut(&data, whole, seen), [plain, tails]);
+        }
+    }
+}
+
+/// An image with tails is drawn as the one that is cut out, and read likewise.
+#[test]
+fn the_tails_of_an_image_are_not_drawn() {
+    for (format, below) in FORMATS.into_iter().flat_map(|format| FORMATS.map(|below| (format, below))) {
+        let [seen, whole] = [5, 8].map(|width| format.bytes(width, 1));
+        let data = noise(4 * whole);
+        let [plain, _] = cut(&data, whole, seen);
+        let images = [Image::with_row(format, 5, 4, 8, &data), Image::new(format, 5, 4, &plain)];
+        let drawn = images.map(|image| {
+            let mut screen = noise(below.bytes(6, 6));
+            let mut canvas = Canvas::new(below, 6, 6, &mut screen);
+            (landed(canvas.draw(0, 1, 9, 9, image, 1, 0, ALL)), screen)
+        });
+        assert_eq!(drawn[0].0, Ok(16));
+        assert_eq!(drawn[0], drawn[1]);
+        let colors =
+            images.map(|image| places(9, 0..9, 0..6).map(|n| image.get_pixel(n as i32 % 9, n as i32 / 9)).collect::<Vec<_>>());
+        assert_eq!(colors[0], colors[1]);
+    }
+}
+
+/// A canvas lends its rows to its image.
+#[test]
+fn a_canvas_with_tails_is_drawn_on_another() {
+    let (mut below, mut above) = ([0; 4], [1, 2, 9, 3, 4, 9]);
+    let source = Canvas::with_row(Rgb332, 2, 2, 3, &mut above);
+    assert_eq!([source.width(), source.row(), source.image().row()], [2, 3, 3]);
+    let mut canvas = Canvas::new(Rgb332, 2, 2, &mut below);
+    assert_eq!(canvas.row(), 2);
+    assert_eq!(landed(canvas.draw(0, 0, 3, 3, source.image(), 0, 0, ALL)), Ok(4));
+    assert_eq!(below, [1, 2, 3, 4]);
 }
 
 #[test]
@@ -258,6 +375,10 @@ fn reading_refuses_a_canvas() {
     let read = |width, length| Canvas::new(Rgb332, width, 1, &mut noise(length)).get_pixel(0, 0).map(|_| ());
     assert_eq!([32_767, 32_768].map(|width| read(width, width as usize)), [Ok(()), Err(Refusal::Size)]);
     assert_eq!([3, 4, 5].map(|length| read(4, length)), [Err(Refusal::Length), Ok(()), Err(Refusal::Length)]);
+    let rows = |row, length| Image::with_row(Rgb332, 4, 2, row, &noise(length)).get_pixel(3, 1).map(|color| color.is_some());
+    assert_eq!([3, 32_768].map(|row| rows(row, 2 * row as usize)), [Err(Refusal::Row); 2]);
+    assert_eq!([4, 5, 32_767].map(|row| rows(row, 2 * row as usize)), [Ok(true); 3]);
+    assert_eq!([8, 9, 11].map(|length| rows(5, length)), [Err(Refusal::Length); 3]);
 }
 
 #[test]
@@ -266,6 +387,10 @@ fn a_source_is_refused() {
     let drawn = |source: Image| number(Rgb565, [4, 4], 32, |c| c.draw(0, 0, 4, 4, source, 0, 0, ALL));
     assert_eq!([32_767, 32_768].map(|width| drawn(Image::new(Rgb332, width, 1, &data[..width as usize]))), [0, 4]);
     assert_eq!([7, 8, 9].map(|length| drawn(Image::new(Rgb565, 2, 2, &data[..length]))), [4, 0, 4]);
+    let rows = |row: u32| drawn(Image::with_row(Rgb332, 3, 1, row, &data[..row as usize]));
+    assert_eq!([2, 3, 4, 32_767, 32_768].map(rows), [4, 0, 0, 0, 4]);
+    assert_eq!([6, 7, 8, 9].map(|length| drawn(Image::with_row(Rgb332, 3, 2, 4, &data[..length]))), [4, 4, 0, 4]);
+    assert_eq!(in_rows(Rgb565, [4, 4, 3], 32, |c| c.draw(0, 0, 4, 4, Image::with_row(Rgb332, 3, 1, 2, data), 0, 0, ALL)), 18);
 }
 
 /// Numbers that are no format do not become one; the others come back as they were.
@@ -391,9 +516,9 @@ fn the_header_has_the_same_numbers() {
         let name = format!("TUYRASHKA_{name:?}").to_uppercase();
         assert_eq!(defined(&name), Some(format!("{number}u").as_str()), "{name}");
     };
-    [Rgb332, Rgb565, Rgb8, Argb, Abgr].iter().for_each(|format| same(format, format.number()));
-    use Refusal::{Angle, Depth, Invalid, Length, NoIcon, Res, ResType, Room, Shape, Size, Source, Type};
-    let refusals = [Refusal::Format, Size, Length, Source, Angle, Shape, Invalid, Type, Room, Res, Depth, ResType, NoIcon];
+    FORMATS.iter().for_each(|format| same(format, format.number()));
+    use Refusal::{Angle, Depth, Invalid, Length, NoIcon, Res, ResType, Room, Row, Shape, Size, Source, Type};
+    let refusals = [Refusal::Format, Size, Length, Source, Angle, Shape, Invalid, Type, Room, Res, Depth, ResType, NoIcon, Row];
     refusals.iter().for_each(|refusal| same(refusal, refusal.number()));
     let version = option_env!("CARGO_PKG_VERSION").map(|version| format!("{version:?}"));
     assert!(version.is_none_or(|version| defined("TUYRASHKA_VERSION") == Some(version.as_str())));

@@ -1,11 +1,13 @@
 -- No two outcomes satisfy the contract of a public function: the readings of an answer tell its cases apart.
 use mathlib.Core.Path.{_≡_, refl, sym, ap, _∙_}
 use mathlib.Core.List.{List}
-use Prim.Native.Nat.{ℕ, zero, suc}
+use mathlib.Core.Bool.{cond}
+use Prim.Native.Nat.{ℕ}
+use lib.Dec.{eqb}
 use denote.Ref.{now}
 use native.Mathlib.Omega.{arith}
 use Rattle.canvas.specs.declared.Refusal.{Refusal}
-use Rattle.canvas.specs.declared.Refusal.the-variants.{Format, Size, Length, Source, Angle, Shape}
+use Rattle.canvas.specs.declared.Refusal.the-variants.{Format, Size, Length, Source, Angle, Shape, Row}
 use Rattle.canvas.specs.declared.Drawn.{Drawn}
 use Rattle.canvas.specs.declared.Drawn.the-variants.{Refused, Done}
 use Rattle.canvas.specs.declared.Tally.{Tally}
@@ -43,14 +45,8 @@ use Rattle.canvas.proofs.Drawn.count.Reads as count
 -- ---- refusals and answers, from their numbers
 
 -- the refusal of a number
-refusal : ℕ → Refusal
-refusal zero = Source
-refusal (suc zero) = Format
-refusal (suc (suc zero)) = Size
-refusal (suc (suc (suc zero))) = Length
-refusal (suc (suc (suc (suc zero)))) = Source
-refusal (suc (suc (suc (suc (suc zero))))) = Angle
-refusal (suc (suc (suc (suc (suc (suc n)))))) = Shape
+unfoldable refusal : ℕ → Refusal
+refusal n = cond (eqb n 1) Format (cond (eqb n 2) Size (cond (eqb n 3) Length (cond (eqb n 4) Source (cond (eqb n 5) Angle (cond (eqb n 6) Shape Row)))))
 
 numbered : (r : Refusal) → refusal (number r) ≡ r
 unfolding number refusal
@@ -60,6 +56,7 @@ numbered Length = refl
 numbered Source = refl
 numbered Angle = refl
 numbered Shape = refl
+numbered Row = refl
 
 same-number : (r s : Refusal) → number r ≡ number s → r ≡ s
 same-number r s e = sym (numbered r) ∙ ap refusal e ∙ numbered s
@@ -72,6 +69,7 @@ no-zero Length e = omega arith
 no-zero Source e = omega arith
 no-zero Angle e = omega arith
 no-zero Shape e = omega arith
+no-zero Row e = omega arith
 
 same-drawn : (d e : Drawn) → statusOf d ≡ statusOf e → countOf d ≡ countOf e → d ≡ e
 unfolding statusOf countOf

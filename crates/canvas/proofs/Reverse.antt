@@ -163,7 +163,7 @@ call-paints v k b e = rw e (go (faultOf k))
     go Sound = refl
     go (Faulty r) = refl
 
-after-sound : (v : Canvas) (ks : List Call) (b : List ℕ) → Screen v b → verdict v (length b) ≡ Sound → after v ks b ≡ paint v (landings v ks) b
+pub after-sound : (v : Canvas) (ks : List Call) (b : List ℕ) → Screen v b → verdict v (length b) ≡ Sound → after v ks b ≡ paint v (landings v ks) b
 unfolding after landings paint
 after-sound v [] b s e = refl
 after-sound v (k ∷ ks) b s e =

@@ -4,12 +4,12 @@ use Prim.Native.Nat.{ℕ}
 use lib.Dec.{ltb, eqb}
 use Rattle.pixels.specs.declared.Canvas.{Canvas}
 use Rattle.canvas.specs.declared.Refusal.{Refusal}
-use Rattle.canvas.specs.declared.Refusal.the-variants.{Format, Size, Length, Source, Angle, Shape}
+use Rattle.canvas.specs.declared.Refusal.the-variants.{Format, Size, Length, Source, Angle, Shape, Row}
 use Rattle.canvas.specs.declared.faults.Verdict.{Verdict}
 use Rattle.canvas.specs.declared.faults.Verdict.the-variants.{Sound, Faulty}
 use Rattle.pixels.specs.Bytes.{extent}
 
--- 01's number of each refusal.
+-- 01's number of each refusal, and 02's.
 unfoldable pub number : Refusal → ℕ
 number Format = 1
 number Size = 2
@@ -17,6 +17,7 @@ number Length = 3
 number Source = 4
 number Angle = 5
 number Shape = 6
+number Row = 18
 
 -- The fault, where the test holds.
 abbrev pub fault : Bool → Refusal → Verdict
@@ -30,19 +31,23 @@ formatFault v = fault (ltb 4 (v .format)) Format
 unfoldable pub sizeFault : Canvas → Verdict
 sizeFault v = fault (ltb 32767 (v .width) || ltb 32767 (v .height)) Size
 
--- "3 LENGTH | lent length is not the exact byte size"
+-- "18 ROW if it is below the width or above 32,767"
+unfoldable pub rowFault : Canvas → Verdict
+rowFault v = fault (ltb (v .row) (v .width) || ltb 32767 (v .row)) Row
+
+-- "3 LENGTH | lent length is not the exact byte size"; "LENGTH now compares against row length times height."
 unfoldable pub lengthFault : Canvas → ℕ → Verdict
 lengthFault v n = fault (not (eqb n (extent v))) Length
 
--- "Where several hold, the lowest .. is given"
+-- Where several hold, the first in this order is given: "18 ROW .., between SIZE and LENGTH", and then the call's own.
 unfoldable pub orElse : Verdict → Verdict → Verdict
 orElse Sound d = d
 orElse (Faulty r) d = Faulty r
 
 unfoldable pub verdict : Canvas → ℕ → Verdict
-verdict v n = orElse (formatFault v) (orElse (sizeFault v) (lengthFault v n))
+verdict v n = orElse (formatFault v) (orElse (sizeFault v) (orElse (rowFault v) (lengthFault v n)))
 
--- "4 SOURCE | `draw`: the source fails any of 1 to 3"
+-- "4 SOURCE | `draw`: the source fails any of 1 to 3"; "a source's bad row is SOURCE"
 abbrev pub asSource : Verdict → Verdict
 asSource Sound = Sound
 asSource (Faulty r) = Faulty Source

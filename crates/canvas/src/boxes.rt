@@ -14,8 +14,8 @@ use crate::Clip;
 use crate::Drawn;
 use crate::Tally;
 use crate::faults::Start;
-use crate::faults::Verdict;
 use crate::faults::begin;
+use crate::faults::judge;
 use crate::plot::landed_more;
 use crate::span::lift;
 use crate::span::overlap;
@@ -69,7 +69,7 @@ pub fn fill_rect(
 ) -> Drawn
     ensures { λ r. ⌜ leaves r (now (bytes .exit)) ≡ call canvas (fillRect x y w h color clip) (now (bytes .entry)) ⌝ }
 {
-    match begin(canvas, bytes.len(), Verdict::Sound, color) {
+    match begin(judge(canvas, bytes.len()), canvas.format, canvas.xor, color) {
         Start::Refused(r) => Drawn::Refused(r),
         Start::With(ink) => {
             let p = lift(x);
@@ -173,7 +173,7 @@ pub fn draw_rect(
 ) -> Drawn
     ensures { λ r. ⌜ leaves r (now (bytes .exit)) ≡ call canvas (drawRect x y w h color clip) (now (bytes .entry)) ⌝ }
 {
-    match begin(canvas, bytes.len(), Verdict::Sound, color) {
+    match begin(judge(canvas, bytes.len()), canvas.format, canvas.xor, color) {
         Start::Refused(r) => Drawn::Refused(r),
         Start::With(ink) => {
             let p = lift(x);

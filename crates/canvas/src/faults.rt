@@ -1,7 +1,7 @@
-// Which canvases are refused: one fault a function, the lowest number first.
+// Which canvases are refused: one fault a function, asked in the order of the refusals.
 ghost use mathlib.Core.Path.{_≡_};
-ghost use Prim.Native.Nat.{_≤_};
-ghost use Rattle.canvas.specs.Faults.{formatFault, sizeFault, lengthFault, orElse, verdict};
+ghost use Rattle.pixels.specs.Bytes.{Bounded};
+ghost use Rattle.canvas.specs.Faults.{formatFault, sizeFault, rowFault, lengthFault, orElse, verdict};
 ghost use Rattle.canvas.specs.Start.{started};
 use crate::Refusal;
 use pixels::Canvas;
@@ -44,8 +44,20 @@ fn size_fault(canvas: Canvas) -> Verdict
     Verdict::Sound
 }
 
+fn row_fault(canvas: Canvas) -> Verdict
+    ensures { λ r. ⌜ r ≡ rowFault canvas ⌝ }
+{
+    if canvas.row < canvas.width {
+        return Verdict::Faulty(Refusal::Row);
+    }
+    if 32767 < canvas.row {
+        return Verdict::Faulty(Refusal::Row);
+    }
+    Verdict::Sound
+}
+
 fn length_fault(canvas: Canvas, len: usize) -> Verdict
-    requires { ⌜ (canvas .width ≤ 32767) × (canvas .height ≤ 32767) ⌝ }
+    requires { ⌜ Bounded canvas ⌝ }
     ensures { λ r. ⌜ r ≡ lengthFault canvas len ⌝ }
 {
     if pixels::bytes::is_whole(canvas, len) {
@@ -66,6 +78,10 @@ pub fn judge(canvas: Canvas, len: usize) -> Verdict
     let Verdict::Sound = s else {
         return s;
     };
+    let t = row_fault(canvas);
+    let Verdict::Sound = t else {
+        return t;
+    };
     length_fault(canvas, len)
 }
 
@@ -75,12 +91,12 @@ pub enum Start {
     With(Ink),
 }
 
-// The first fault, the canvas's before the call's own, or the ink of the colour.
-pub fn begin(canvas: Canvas, len: usize, own: Verdict, color: Color) -> Start
-    ensures { λ r. ⌜ r ≡ started (orElse (verdict canvas len) own) canvas color ⌝ }
+// Refused for a fault, or with the ink of the colour on a canvas of this format and switch.
+pub fn begin(fault: Verdict, format: u32, xor: bool, color: Color) -> Start
+    ensures { λ r. ⌜ r ≡ started fault format xor color ⌝ }
 {
-    match or_else(judge(canvas, len), own) {
+    match fault {
         Verdict::Faulty(r) => Start::Refused(r),
-        Verdict::Sound => Start::With(words::plot_ink(canvas.format, canvas.xor, color)),
+        Verdict::Sound => Start::With(words::plot_ink(format, xor, color)),
     }
 }

@@ -36,6 +36,7 @@ pub enum Refusal {
     Source,
     Angle,
     Shape,
+    Row,
 }
 
 // What became of the plots so far.
@@ -68,6 +69,7 @@ impl Refusal {
             Refusal::Source => 4,
             Refusal::Angle => 5,
             Refusal::Shape => 6,
+            Refusal::Row => 18,
         }
     }
 }

@@ -13,8 +13,8 @@ use crate::Clip;
 use crate::Drawn;
 use crate::Tally;
 use crate::faults::Start;
-use crate::faults::Verdict;
 use crate::faults::begin;
+use crate::faults::judge;
 use crate::plot::dab;
 use crate::span::lift;
 use crate::span::window;
@@ -213,7 +213,7 @@ pub fn draw_line(
 ) -> Drawn
     ensures { λ r. ⌜ leaves r (now (bytes .exit)) ≡ call canvas (drawLine x1 y1 x2 y2 color clip) (now (bytes .entry)) ⌝ }
 {
-    match begin(canvas, bytes.len(), Verdict::Sound, color) {
+    match begin(judge(canvas, bytes.len()), canvas.format, canvas.xor, color) {
         Start::Refused(r) => Drawn::Refused(r),
         Start::With(ink) => Drawn::Done(line_in(
             canvas,

@@ -11,8 +11,8 @@ use crate::Clip;
 use crate::Drawn;
 use crate::Tally;
 use crate::faults::Start;
-use crate::faults::Verdict;
 use crate::faults::begin;
+use crate::faults::judge;
 use crate::span::lift;
 use crate::span::on_side;
 use pixels::Canvas;
@@ -112,7 +112,7 @@ pub fn put_pixel(
 ) -> Drawn
     ensures { λ r. ⌜ leaves r (now (bytes .exit)) ≡ call canvas (putPixel x y color clip) (now (bytes .entry)) ⌝ }
 {
-    match begin(canvas, bytes.len(), Verdict::Sound, color) {
+    match begin(judge(canvas, bytes.len()), canvas.format, canvas.xor, color) {
         Start::Refused(r) => Drawn::Refused(r),
         Start::With(ink) => {
             let p = lift(x);

@@ -66,12 +66,8 @@ pub(crate) fn in_span(a: i32, n: u32, p: usize) -> bool
     requires { ⌜ p < 32768 ⌝ }
     ensures { λ r. ⌜ r ≡ within a n (pos p) ⌝ }
 {
-    let u = lift(a);
-    let q = 2147483648 + p as u64;
-    if q < u {
-        return false;
-    }
-    q < u + n as u64
+    let past = std::num::wrapping_sub_u64(2147483648 + p as u64, lift(a));
+    past < n as u64
 }
 
 // Whether a point of the canvas is inside the clip.
@@ -89,10 +85,8 @@ pub(crate) fn in_clip(clip: Clip, x: usize, y: usize) -> bool
 pub(crate) fn on_side(p: u64, n: u32) -> bool
     ensures { λ r. ⌜ r ≡ within (pos 0) n (lowered p) ⌝ }
 {
-    if p < 2147483648 {
-        return false;
-    }
-    p - 2147483648 < n as u64
+    let at = std::num::wrapping_sub_u64(p, 2147483648);
+    at < n as u64
 }
 
 // The span of len from u, as it is seen from z: what lies before z is cut off.

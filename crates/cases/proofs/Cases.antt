@@ -17,7 +17,7 @@ use Rattle.cases.specs.Place.{leftAt, pairs, readArgs, readName, kindsIn
 use Rattle.cases.specs.Row.{Args, head, rowOf, argsOf}
 use Rattle.cases.specs.Seed.{Sown, firstBytes}
 use Rattle.words.specs.Format.{formatOf, bytesPerPixel}
-use Rattle.cases.specs.Case.{exactly, fitting, capped, whole, Outcome, noCase, laid, lentAt, called, known, caseOf}
+use Rattle.cases.specs.Case.{exactly, fitting, capped, whole, Outcome, noCase, laid, lentAt, laidOut, called, known, caseOf}
 use Rattle.cases.specs.declared.number.Name.{Name}
 use Rattle.cases.specs.declared.row.Args.{Args as Taken}
 use Rattle.words.proofs.Either.{either, neither}
@@ -80,8 +80,8 @@ room b k l n m t =
     (ltb-false k n (neither b (ltb k n) (o .0) .1), ltb-false l m (o .1))
 
 -- Both are laid out, or neither is.
-module _ (op : ℕ) (h r : Args) (bytes image : List ℕ) (n m : ℕ) (e : fitting (length bytes) n ≡ lentAt (length bytes) 0 h)
-    (f : fitting (length image) m ≡ lentAt (length image) 4 r) where
+module _ (op : ℕ) (h r : Args) (bytes image : List ℕ) (n m : ℕ) (e : fitting (length bytes) n ≡ lentAt (length bytes) 0 5 h)
+    (f : fitting (length image) m ≡ lentAt (length image) 4 8 r) where
   abbrev bad : Outcome
   bad = (noCase, bytes, image)
 
@@ -97,16 +97,16 @@ module _ (op : ℕ) (h r : Args) (bytes image : List ℕ) (n m : ℕ) (e : fitti
   unfolding laid
   first-none w = refl
 
-  short-by : (ltb (length bytes) n ≡ true) ⊎ (ltb (length image) m ≡ true) → bad ≡ both (lentAt (length bytes) 0 h) (lentAt (length image) 4 r)
+  short-by : (ltb (length bytes) n ≡ true) ⊎ (ltb (length image) m ≡ true) → bad ≡ both (lentAt (length bytes) 0 5 h) (lentAt (length image) 4 8 r)
   short-by (inl t) =
-      first-none (lentAt (length image) 4 r) ∙
-      ap (λ (v : Value ℕ). both v (lentAt (length image) 4 r)) (sym (over (length bytes) n (ltb-true (length bytes) n t)) ∙ e)
+      first-none (lentAt (length image) 4 8 r) ∙
+      ap (λ (v : Value ℕ). both v (lentAt (length image) 4 8 r)) (sym (over (length bytes) n (ltb-true (length bytes) n t)) ∙ e)
   short-by (inr t) =
-      second-none (lentAt (length bytes) 0 h) ∙
-      ap (λ (w : Value ℕ). both (lentAt (length bytes) 0 h) w) (sym (over (length image) m (ltb-true (length image) m t)) ∙ f)
+      second-none (lentAt (length bytes) 0 5 h) ∙
+      ap (λ (w : Value ℕ). both (lentAt (length bytes) 0 5 h) w) (sym (over (length image) m (ltb-true (length image) m t)) ∙ f)
 
   abbrev end : Outcome
-  end = both (lentAt (length bytes) 0 h) (lentAt (length image) 4 r)
+  end = both (lentAt (length bytes) 0 5 h) (lentAt (length image) 4 8 r)
 
   pub no-room : (b : Bool) → ((b || ltb (length bytes) n) || ltb (length image) m) ≡ true → bad ≡ cond b bad end
   no-room true t = refl
@@ -122,7 +122,7 @@ module _ (op : ℕ) (h r : Args) (bytes image : List ℕ) (n m : ℕ) (e : fitti
       rw (p, q, k) (sym (rw (← e, ← f, le-leb n (length bytes) (l .0), le-leb m (length image) (l .1))))
 
 -- The head, the name and the row one after the other are the case.
-module _ (line bytes image : List ℕ) (h : Taken) (o : Name) (k : ℕ) (e : readArgs line h ≡ argsOf (kindsIn 16 0xeeebd00000000000) (leftAt line 0))
+module _ (line bytes image : List ℕ) (h : Taken) (o : Name) (k : ℕ) (e : readArgs line h ≡ argsOf (kindsIn 16 0xeeebd40000000000) (leftAt line 0))
     (f : readName line o ≡ nameOf (leftAt line (h .next))) (g : kindsIn 16 k ≡ rowOf (o .letters)) where
   case-is : known (kindsIn 16 k) (called (o .letters) (readArgs line h .value) (argsOf (kindsIn 16 k) (leftAt line (o .next))) bytes image) (noCase, bytes, image)
       ≡ caseOf line bytes image
@@ -147,7 +147,7 @@ module _ (line bytes image : List ℕ) (h : Taken) (o : Name) (k : ℕ) (e : rea
     no-row-ends l = sym (not-whole line (r .next) _ (noCase, bytes, image) l) ∙ row-is
 
     laid-out : {x : Outcome} → r .next ≡ length line + 1
-        → x ≡ laid (o .letters) (readArgs line h .value) (readArgs line r .value) (lentAt (length bytes) 0 (readArgs line h .value)) (lentAt (length image) 4 (readArgs line r .value)) bytes image
+        → x ≡ laidOut (o .letters) (readArgs line h .value) (readArgs line r .value) bytes image
         → x ≡ caseOf line bytes image
     unfolding called
     laid-out w p = p ∙ sym (is-whole line (r .next) _ (noCase, bytes, image) w) ∙ row-is
@@ -163,14 +163,14 @@ module _ (line bytes image : List ℕ) (h : Taken) (o : Name) (k : ℕ) (e : rea
     bad-line t = bad-by (either (eqb k 0) (not (eqb (r .next) (length line + 1))) t) (ℕ-discrete k 0)
 
     good-line : {x : Outcome} → (eqb k 0 || not (eqb (r .next) (length line + 1))) ≡ false
-        → x ≡ laid (o .letters) (readArgs line h .value) (readArgs line r .value) (lentAt (length bytes) 0 (readArgs line h .value)) (lentAt (length image) 4 (readArgs line r .value)) bytes image
+        → x ≡ laidOut (o .letters) (readArgs line h .value) (readArgs line r .value) bytes image
         → x ≡ caseOf line bytes image
     good-line t p =
         let q = neither (eqb k 0) (not (eqb (r .next) (length line + 1))) t in
         laid-out (eqb-false k 0 (q .0)) r i (eqb-true (r .next) (length line + 1) (not-false (eqb (r .next) (length line + 1)) (q .1))) p
 
     pub any-line : {x : Outcome} (b : Bool) → (eqb k 0 || not (eqb (r .next) (length line + 1))) ≡ b
-        → x ≡ cond b (noCase, bytes, image) (laid (o .letters) (readArgs line h .value) (readArgs line r .value) (lentAt (length bytes) 0 (readArgs line h .value)) (lentAt (length image) 4 (readArgs line r .value)) bytes image)
+        → x ≡ cond b (noCase, bytes, image) (laidOut (o .letters) (readArgs line h .value) (readArgs line r .value) bytes image)
         → x ≡ caseOf line bytes image
     any-line true t p = p ∙ bad-line t
     any-line false t p = good-line t p

@@ -9,16 +9,15 @@ use lib.Dec.{T, ltb, eqb}
 use lib.ListN.{set}
 use borrow.Author.Tests.{eq-eqb, ne-eqb, ltb-true, ltb-false, eqb-true, eqb-false}
 use Rattle.cases.specs.Line.{Got}
-use Rattle.cases.specs.Number.{numeric}
 use Rattle.cases.specs.Place.{leftAt, read, readSeed, readArgs, kindsIn}
-use Rattle.cases.specs.Row.{Args, head, rowOf, numbered, seeded, argOf, argsFrom}
+use Rattle.cases.specs.Row.{Args, head, rowOf, numbered, seeded, wordOf, argOf, argsFrom}
 use Rattle.cases.specs.Seed.{seedOf, fileOf}
 use Rattle.cases.specs.Case.{known}
 use Rattle.cases.specs.declared.number.Number.{Number}
 use Rattle.cases.specs.declared.row.Args.{Args as Taken}
 use Rattle.cases.specs.declared.seed.Seeded.{Seeded}
 
-pub head-kinds : kindsIn 16 0xeeebd00000000000 ≡ head
+pub head-kinds : kindsIn 16 0xeeebd40000000000 ≡ head
 unfolding kindsIn
 head-kinds = refl
 
@@ -85,7 +84,7 @@ module _ (line : List ℕ) (i k : ℕ) (a : Taken) where
   unfolding argOf seeded
   file-taken n z s e = rw (ne-eqb k 13 n, eq-eqb k 15 z, ← e)
 
-  pub number-taken : (k ≡ 13 → ⊥) → (k ≡ 15 → ⊥) → (n : Number) → read line n ≡ numeric k (leftAt line (a .next))
+  pub number-taken : (k ≡ 13 → ⊥) → (k ≡ 15 → ⊥) → (n : Number) → read line n ≡ wordOf i k (a .numbers) (leftAt line (a .next))
       → readArgs line (record { numbers = set (a .numbers) i (n .value); seed = a .seed; next = n .next }) ≡ argOf i k (readArgs line a)
   unfolding argOf numbered
   number-taken m z n e = rw (ne-eqb k 13 m, ne-eqb k 15 z, ← e)

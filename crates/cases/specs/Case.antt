@@ -11,15 +11,15 @@ use Rattle.cases.specs.Row.{Args, head, rowOf, argsOf}
 use Rattle.cases.specs.Seed.{Sown, zeros, counted, given, firstBytes}
 use Rattle.cases.specs.declared.case.Case.{Case}
 
--- A canvas of a known format has its exact bytes.
+-- A canvas of a known format has its exact bytes: "row times height pixels".
 unfoldable pub exactly : ℕ → ℕ → ℕ → Value ℕ
-exactly f w h = let n = bytesPerPixel (formatOf f) in cond (eqb n 0) none (value (w * h * n))
+exactly f row h = let n = bytesPerPixel (formatOf f) in cond (eqb n 0) none (value (row * h * n))
 
 -- How many bytes are lent: those that hex gives, "which may have the wrong length"; else the canvas's.
 unfoldable pub lent : ℕ → ℕ → ℕ → Sown → Value ℕ
-lent f w h zeros = exactly f w h
-lent f w h (counted s) = exactly f w h
-lent f w h (given bs) = value (length bs)
+lent f row h zeros = exactly f row h
+lent f row h (counted s) = exactly f row h
+lent f row h (given bs) = value (length bs)
 
 -- So many bytes, if there is room for them.
 unfoldable pub fitting : ℕ → ℕ → Value ℕ
@@ -53,13 +53,17 @@ laid op h r (value n) (value m) bytes image = (
 laid op h r (value n) none bytes image = (noCase, bytes, image)
 laid op h r none m bytes image = (noCase, bytes, image)
 
--- The seed's canvas is the format and sides that stand before it: F W H, and SF SW SH.
-abbrev pub lentAt : ℕ → ℕ → Args → Value ℕ
-lentAt room i g = capped room (lent (getD (g .numbers) i 0) (getD (g .numbers) (i + 1) 0) (getD (g .numbers) (i + 2) 0) (g .seed))
+-- The seed's canvas is the format and sides that stand before it, F W H or SF SW SH from the word i on, and the row length
+-- that stands behind it, the word j.
+abbrev pub lentAt : ℕ → ℕ → ℕ → Args → Value ℕ
+lentAt room i j g = capped room (lent (getD (g .numbers) i 0) (getD (g .numbers) j 0) (getD (g .numbers) (i + 2) 0) (g .seed))
+
+-- The canvas is the head's, its row length the word 5; an image is draw's, its row length the word 8.
+abbrev pub laidOut : ℕ → Args → Args → List ℕ → List ℕ → Outcome
+laidOut op h r bytes image = laid op h r (lentAt (length bytes) 0 5 h) (lentAt (length image) 4 8 r) bytes image
 
 unfoldable pub called : ℕ → Args → Got Args → List ℕ → List ℕ → Outcome
-called op h r bytes image =
-    whole (r .left) (laid op h (r .value) (lentAt (length bytes) 0 h) (lentAt (length image) 4 (r .value)) bytes image) (noCase, bytes, image)
+called op h r bytes image = whole (r .left) (laidOut op h (r .value) bytes image) (noCase, bytes, image)
 
 -- What has no row is bad.
 unfoldable pub known : {A : Type 0} → List ℕ → A → A → A

@@ -3,7 +3,7 @@ use mathlib.Core.Bool.{Bool, false, cond}
 use mathlib.Core.List.{List, [], _∷_}
 use Prim.Native.Nat.{ℕ, _+_, _-_, _*_, _%_}
 use lib.Dec.{eqb, leb}
-use Rattle.cases.specs.Line.{Left, Value, value, none, Got, next, firstOf}
+use Rattle.cases.specs.Line.{Left, Value, value, none, Got, got, next, firstOf}
 
 -- A digit, after which the value is still at most so much.
 unfoldable pub accepts : ℕ → ℕ → ℕ → Bool
@@ -43,6 +43,17 @@ unfoldable pub numeric : ℕ → Left → Got ℕ
 numeric kind l =
     cond (eqb kind 11) (numberOf 1 l)
     (cond (eqb kind 12) (numberOf 255 l) (cond (eqb kind 10) (signedOf l) (numberOf 4294967295 l)))
+
+-- "`name=N`": a name with its sign, and a u32 right behind it.
+unfoldable pub behind : List ℕ → List ℕ → Value ℕ
+behind [] w = natural 4294967295 w
+behind (k ∷ ks) [] = none
+behind (k ∷ ks) (b ∷ w) = cond (eqb b k) (behind ks w) none
+
+-- "Words `name=N` may stand": where the first word left is no such word, nothing is taken, and the number is what it is
+-- "absent".
+unfoldable pub namedOf : List ℕ → ℕ → Left → Got ℕ
+namedOf name absent l = firstOf (next 0 (behind name) l) (got absent l)
 
 -- A name by its letters, the first one highest: at most seven, and none of them 0.
 unfoldable pub letters : ℕ → List ℕ → Value ℕ

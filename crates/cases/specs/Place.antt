@@ -21,10 +21,13 @@ use Rattle.cases.specs.declared.seed.Seeded.{Seeded}
 unfoldable pub leftAt : List ℕ → ℕ → Left
 leftAt line at = cond (leb at (length line)) (wordsOf (drop at line)) (cond (eqb at (length line + 1)) (words []) lost)
 
--- Whether a word ends at an index; whether one letter more of a name stands there, or one digit more of a number; and
--- whether two hex digits do.
+-- Whether a word ends at an index; whether a letter stands there, one letter more of a name, or one digit more of a number;
+-- and whether two hex digits do.
 unfoldable pub wordEnds : List ℕ → ℕ → Bool
 wordEnds line i = cond (leb (length line) i) (eqb i (length line)) (eqb (getD line i 0) 32)
+
+unfoldable pub thisLetter : List ℕ → ℕ → ℕ → Bool
+thisLetter line i b = cond (leb (length line) i) false (not (eqb (getD line i 0) 32) && eqb (getD line i 0) b)
 
 unfoldable pub oneLetter : List ℕ → ℕ → ℕ → Bool
 oneLetter line i v =

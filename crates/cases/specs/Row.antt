@@ -1,15 +1,16 @@
 -- The table of ops: "OP ARGS..", a name and the kinds of its arguments.
 use mathlib.Core.Bool.{cond}
 use mathlib.Core.List.{List, [], _∷_, _++_}
-use Prim.Native.Nat.{ℕ, _+_}
-use lib.Dec.{eqb}
-use lib.ListN.{set, replicate}
+use Prim.Native.Nat.{ℕ, _+_, _-_}
+use lib.Dec.{eqb, ltb}
+use lib.ListN.{getD, set, replicate}
 use Rattle.cases.specs.Ops as ops
 use Rattle.cases.specs.Line.{Left, Got, got}
-use Rattle.cases.specs.Number.{numeric}
+use Rattle.cases.specs.Number.{namedOf, numeric}
 use Rattle.cases.specs.Seed.{Sown, given, seedOf, fileOf}
 
--- The kinds: a an i32, b a switch, c a channel, d a seed, e a u32, f a file.
+-- The kinds: a an i32, b a switch, c a channel, d a seed, e a u32, f a file; below them a row length, whose width stands so
+-- many words before it.
 abbrev pub a : ℕ
 a = 10
 
@@ -28,9 +29,9 @@ e = 14
 abbrev pub f : ℕ
 f = 15
 
--- "F W H X SEED"
+-- "F W H X SEED", and the row length
 abbrev pub head : List ℕ
-head = e ∷ e ∷ e ∷ b ∷ d ∷ []
+head = e ∷ e ∷ e ∷ b ∷ d ∷ 4 ∷ []
 
 -- "x y"; "w h"; "COL is A R G B"; "CLIP is x y w h"
 abbrev pub point : List ℕ
@@ -59,7 +60,7 @@ rowOf op =
     (cond (eqb op ops.frrect) (point ++ extent ++ extent ++ color ++ clip)
     (cond (eqb op ops.copy) (point ++ point ++ extent ++ clip)
     (cond (eqb op ops.invert) (point ++ extent ++ clip)
-    (cond (eqb op ops.draw) (point ++ extent ++ (e ∷ e ∷ e ∷ d ∷ []) ++ point ++ clip)
+    (cond (eqb op ops.draw) (point ++ extent ++ (e ∷ e ∷ e ∷ d ∷ 3 ∷ []) ++ point ++ clip)
     (cond (eqb op ops.lbmp) (e ∷ f ∷ [])
     (cond (eqb op ops.res) (f ∷ []) [])))))))))))))
 
@@ -74,11 +75,22 @@ numbered i g n = got (record { numbers = set (g .value .numbers) i (n .value); s
 unfoldable pub seeded : Got Args → Got Sown → Got Args
 seeded g s = got (record { numbers = g .value .numbers; seed = s .value }) (s .left)
 
+-- "row=N: row length in pixels; absent: the width"
+abbrev pub rowName : List ℕ
+rowName = 114 ∷ 111 ∷ 119 ∷ 61 ∷ []
+
+unfoldable pub rowLength : ℕ → Left → Got ℕ
+rowLength width l = namedOf rowName width l
+
+-- The number that is the word i, behind those before it.
+unfoldable pub wordOf : ℕ → ℕ → List ℕ → Left → Got ℕ
+wordOf i k n l = cond (ltb k a) (rowLength (getD n (i - k) 0) l) (numeric k l)
+
 -- One argument more, the word i of them.
 unfoldable pub argOf : ℕ → ℕ → Got Args → Got Args
 argOf i k g =
     cond (eqb k d) (seeded g (seedOf (g .left)))
-    (cond (eqb k f) (seeded g (fileOf (g .left))) (numbered i g (numeric k (g .left))))
+    (cond (eqb k f) (seeded g (fileOf (g .left))) (numbered i g (wordOf i k (g .value .numbers) (g .left))))
 
 unfoldable pub argsFrom : ℕ → List ℕ → Got Args → Got Args
 argsFrom i [] g = g

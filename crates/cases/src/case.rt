@@ -5,7 +5,7 @@ ghost use mathlib.Core.Bool.{cond};
 ghost use mathlib.Core.List.{List, _++_};
 ghost use lib.ListN.{length, drop, getD};
 ghost use Rattle.cases.specs.Place.{sown, readArgs, Within, Fills};
-ghost use Rattle.cases.specs.Case.{exactly, fitting, capped, noCase, laid, lentAt, caseOf};
+ghost use Rattle.cases.specs.Case.{exactly, fitting, capped, noCase, laidOut, caseOf};
 ghost use Rattle.cases.specs.Seed.{firstBytes};
 ghost use Rattle.cases.specs.Case.{lent as lentTo};
 use crate::number::read_name;
@@ -34,35 +34,36 @@ const BAD: Case = Case {
 };
 
 // How many bytes a canvas has, if the room holds them; else one more than the room.
-fn held(format: u32, width: u32, height: u32, room: usize) -> usize
+fn held(format: u32, row: u32, height: u32, room: usize) -> usize
     requires { ⌜ room < 2 ^ 63 ⌝ }
-    ensures { λ r. ⌜ fitting room r ≡ capped room (exactly format width height) ⌝ }
+    ensures { λ r. ⌜ fitting room r ≡ capped room (exactly format row height) ⌝ }
 {
     let n = words::bytes_per_pixel(format);
     if n == 0 {
         return room + 1;
     }
-    let area = width as usize * height as usize;
+    let area = row as usize * height as usize;
     if room / n < area {
         return room + 1;
     }
     area * n
 }
 
-// How many bytes the seed gives a canvas whose format, width and height begin at the word i, if the room holds them; else
-// one more than the room.
-fn lent(n: [u32; 16], i: usize, seed: Seed, room: usize) -> usize
+// How many bytes the seed gives a canvas whose format, width and height begin at the word i, and whose row length is the
+// word j, if the room holds them; else one more than the room.
+fn lent(n: [u32; 16], i: usize, j: usize, seed: Seed, room: usize) -> usize
     requires { ⌜ i < 14 ⌝ }
+    requires { ⌜ j < 16 ⌝ }
     requires { ⌜ room < 2 ^ 63 ⌝ }
-    ensures { λ r. ⌜ ((line : List ℕ) → fitting room r ≡ capped room (lentTo (getD n i 0) (getD n (i + 1) 0) (getD n (i + 2) 0) (sown line seed))) ⌝ }
+    ensures { λ r. ⌜ ((line : List ℕ) → fitting room r ≡ capped room (lentTo (getD n i 0) (getD n j 0) (getD n (i + 2) 0) (sown line seed))) ⌝ }
     ensures { λ r. ⌜ Fills seed r ⌝ }
 {
     let format = n[i];
-    let width = n[i + 1];
+    let row = n[j];
     let height = n[i + 2];
     match seed {
-        Seed::Zeros => held(format, width, height, room),
-        Seed::Number(_) => held(format, width, height, room),
+        Seed::Zeros => held(format, row, height, room),
+        Seed::Number(_) => held(format, row, height, room),
         Seed::Bytes(_, k) => k,
     }
 }
@@ -89,14 +90,14 @@ fn lay_both(
 ) -> Case
     requires { ⌜ Within (now line) (h .seed) ⌝ }
     requires { ⌜ Within (now line) (c .seed) ⌝ }
-    ensures { λ r. ⌜ (r, now (bytes .exit), now (image .exit)) ≡ cond bad (noCase, now (bytes .entry), now (image .entry)) (laid name (readArgs (now (line .entry)) h .value) (readArgs (now (line .entry)) c .value) (lentAt (length (now (bytes .entry))) 0 (readArgs (now (line .entry)) h .value)) (lentAt (length (now (image .entry))) 4 (readArgs (now (line .entry)) c .value)) (now (bytes .entry)) (now (image .entry))) ⌝ }
+    ensures { λ r. ⌜ (r, now (bytes .exit), now (image .exit)) ≡ cond bad (noCase, now (bytes .entry), now (image .entry)) (laidOut name (readArgs (now (line .entry)) h .value) (readArgs (now (line .entry)) c .value) (now (bytes .entry)) (now (image .entry))) ⌝ }
 {
     let head = h.numbers;
     let seed = h.seed;
-    let n = lent(head, 0, seed, bytes.len());
+    let n = lent(head, 0, 5, seed, bytes.len());
     let args = c.numbers;
     let beside = c.seed;
-    let m = lent(args, 4, beside, image.len());
+    let m = lent(args, 4, 8, beside, image.len());
     if bad | (bytes.len() < n) | (image.len() < m) {
         return BAD;
     }
@@ -116,7 +117,7 @@ fn lay_both(
 pub fn read(line: &[u8], bytes: &mut [u8], image: &mut [u8]) -> Case
     ensures { λ r. ⌜ (r, now (bytes .exit), now (image .exit)) ≡ caseOf (now (line .entry)) (now (bytes .entry)) (now (image .entry)) ⌝ }
 {
-    let h = read_args(line, 0, 0xeeeb_d000_0000_0000);
+    let h = read_args(line, 0, 0xeeeb_d400_0000_0000);
     let name = read_name(line, h.next);
     let k = kinds(name.letters);
     let c = read_args(line, name.next, k);

@@ -2,8 +2,9 @@
 // is left, and beyond that reading is lost.
 ghost use mathlib.Core.Path.{_≡_};
 ghost use Prim.Native.Nat.{_≤_, _<_};
-ghost use Rattle.cases.specs.Place.{leftAt, wordEnds, oneLetter, oneDigit, read, readName};
-ghost use Rattle.cases.specs.Number.{numberOf, numeric, nameOf};
+ghost use Rattle.cases.specs.Line.{next};
+ghost use Rattle.cases.specs.Place.{leftAt, wordEnds, thisLetter, oneLetter, oneDigit, read, readName};
+ghost use Rattle.cases.specs.Number.{numberOf, behind, namedOf, numeric, nameOf};
 
 pub(crate) struct Number {
     pub value: u32,
@@ -101,6 +102,48 @@ pub(crate) fn read_kind(line: &[u8], at: usize, kind: u64) -> Number
     Number {
         value: ((4294967296 - m.value as u64) % 4294967296) as u32,
         next: m.next,
+    }
+}
+
+// Whether this letter stands at a place.
+fn stands(line: &[u8], i: usize, b: u8) -> bool
+    ensures { λ r. ⌜ r ≡ thisLetter (now (line .entry)) i b ⌝ }
+{
+    if line.len() <= i {
+        return false;
+    }
+    (line[i] != 32) & (line[i] == b)
+}
+
+// The place behind a name in the word at a place, where its number begins; without the name, beyond the line.
+fn past(line: &[u8], at: usize, name: &[u8]) -> usize
+    ensures { λ r. ⌜ next 0 (behind (now (name .entry))) (leftAt (now (line .entry)) at) ≡ numberOf 4294967295 (leftAt (now (line .entry)) r) ⌝ }
+{
+    let mut i = at;
+    let mut k = 0;
+    while k < name.len() {
+        if !stands(line, i, name[k]) {
+            return line.len() + 2;
+        }
+        i += 1;
+        k += 1;
+    }
+    i
+}
+
+// The number behind a name at a place; where no such word stands there, nothing is taken, and the number is what it is
+// absent.
+pub(crate) fn read_named(line: &[u8], at: usize, name: &[u8], absent: u32) -> Number
+    ensures { λ r. ⌜ read (now (line .entry)) r ≡ namedOf (now (name .entry)) absent (leftAt (now (line .entry)) at) ⌝ }
+{
+    let from = past(line, at, name);
+    let n = read_number(line, from, 4294967295);
+    if n.next < line.len() + 2 {
+        return n;
+    }
+    Number {
+        value: absent,
+        next: at,
     }
 }
 

@@ -1,9 +1,11 @@
 // The rows of the table of ops: a name, and the kinds of its arguments.
 ghost use mathlib.Core.Path.{_≡_};
-ghost use Prim.Native.Nat.{_<_};
-ghost use Rattle.cases.specs.Place.{leftAt, readArgs, kindsIn, Within};
-ghost use Rattle.cases.specs.Row.{rowOf, argOf, argsOf};
+ghost use Prim.Native.Nat.{_<_, _-_};
+ghost use Rattle.cases.specs.Place.{leftAt, read, readArgs, kindsIn, Within};
+ghost use Rattle.cases.specs.Row.{rowOf, wordOf, rowLength, argOf, argsOf};
+use crate::number::Number;
 use crate::number::read_kind;
+use crate::number::read_named;
 use crate::seed::Seed;
 use crate::seed::read_file;
 use crate::seed::read_seed;
@@ -46,7 +48,7 @@ pub(crate) struct Args {
 }
 
 // What the arguments of an op are, a hex digit each, from the highest: a an i32, b a switch, c a channel, d a seed,
-// e a u32, f a file. What is no op has none.
+// e a u32, f a file; below them a row length, whose width stands so many words before it. What is no op has none.
 pub(crate) fn kinds(name: u64) -> u64
     ensures { λ r. ⌜ kindsIn 16 r ≡ rowOf name ⌝ }
 {
@@ -59,11 +61,42 @@ pub(crate) fn kinds(name: u64) -> u64
         RRECT | FRRECT => 0xaaee_eecc_ccaa_ee00,
         COPY => 0xaaaa_eeaa_ee00_0000,
         INVERT => 0xaaee_aaee_0000_0000,
-        DRAW => 0xaaee_eeed_aaaa_ee00,
+        DRAW => 0xaaee_eeed_3aaa_aee0,
         LBMP => 0xef00_0000_0000_0000,
         RES => 0xf000_0000_0000_0000,
         _ => 0,
     }
+}
+
+// The word that stands k words before the word i, or the first.
+fn back(i: usize, k: u64) -> usize
+    requires { ⌜ i < 16 ⌝ }
+    ensures { λ r. ⌜ r ≡ i - k ⌝ }
+    ensures { λ r. ⌜ r < 16 ⌝ }
+{
+    if i as u64 <= k {
+        return 0;
+    }
+    i - k as usize
+}
+
+// The row length at a place.
+fn read_row(line: &[u8], at: usize, width: u32) -> Number
+    ensures { λ r. ⌜ read (now (line .entry)) r ≡ rowLength width (leftAt (now (line .entry)) at) ⌝ }
+{
+    read_named(line, at, b"row=", width)
+}
+
+// The number at a place that is the word i, behind those before it.
+fn read_word(line: &[u8], at: usize, i: usize, kind: u64, numbers: [u32; 16]) -> Number
+    requires { ⌜ i < 16 ⌝ }
+    ensures { λ r. ⌜ read (now (line .entry)) r ≡ wordOf i kind numbers (leftAt (now (line .entry)) at) ⌝ }
+{
+    if kind < 10 {
+        let w = back(i, kind);
+        return read_row(line, at, numbers[w]);
+    }
+    read_kind(line, at, kind)
 }
 
 // Reads one more argument, which is the word i of them.
@@ -93,7 +126,7 @@ fn take(line: &[u8], i: usize, kind: u64, a: Args) -> Args
             next: s.next,
         };
     }
-    let n = read_kind(line, at, kind);
+    let n = read_word(line, at, i, kind, numbers);
     numbers[i] = n.value;
     let seed = a.seed;
     Args {

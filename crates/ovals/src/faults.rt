@@ -1,4 +1,4 @@
-// Which angles and boxes are refused: one fault a function, the lowest number first.
+// Which angles and boxes are refused: one fault a function, asked in the order of the refusals.
 ghost use mathlib.Core.Path.{_≡_};
 ghost use Rattle.ovals.specs.Faults.{outside, angleFault, shapeFault, arcFault};
 use canvas::Refusal;

@@ -23,6 +23,8 @@ use canvas::boxes::fill_in;
 use canvas::boxes::is_empty;
 use canvas::faults::Start;
 use canvas::faults::begin;
+use canvas::faults::judge;
+use canvas::faults::or_else;
 use canvas::span::lift;
 use curves::corners::Corners;
 use pixels::Canvas;
@@ -70,12 +72,11 @@ pub fn fill_arc(
 ) -> Drawn
     ensures { λ r. ⌜ leaves r (now (bytes .exit)) ≡ call canvas (fillArc x y w h start arc color clip) (now (bytes .entry)) ⌝ }
 {
-    match begin(
-        canvas,
-        bytes.len(),
+    let fault = or_else(
+        judge(canvas, bytes.len()),
         arc_fault(x, y, w, h, start, arc),
-        color,
-    ) {
+    );
+    match begin(fault, canvas.format, canvas.xor, color) {
         Start::Refused(r) => Drawn::Refused(r),
         Start::With(ink) => Drawn::Done(pie_in(
             canvas,
@@ -155,7 +156,8 @@ pub fn fill_round_rect(
 ) -> Drawn
     ensures { λ r. ⌜ leaves r (now (bytes .exit)) ≡ call canvas (fillRoundRect x y w h aw ah color clip) (now (bytes .entry)) ⌝ }
 {
-    match begin(canvas, bytes.len(), shape_fault(x, y, w, h), color) {
+    let fault = or_else(judge(canvas, bytes.len()), shape_fault(x, y, w, h));
+    match begin(fault, canvas.format, canvas.xor, color) {
         Start::Refused(r) => Drawn::Refused(r),
         Start::With(ink) => Drawn::Done(round_in(
             canvas,

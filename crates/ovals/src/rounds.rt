@@ -23,6 +23,8 @@ use canvas::boxes::edges_in;
 use canvas::boxes::outline_in;
 use canvas::faults::Start;
 use canvas::faults::begin;
+use canvas::faults::judge;
+use canvas::faults::or_else;
 use canvas::span::lift;
 use curves::corners::Corners;
 use curves::corners::inset;
@@ -94,7 +96,8 @@ pub fn draw_round_rect(
 ) -> Drawn
     ensures { λ r. ⌜ leaves r (now (bytes .exit)) ≡ call canvas (drawRoundRect x y w h aw ah color clip) (now (bytes .entry)) ⌝ }
 {
-    match begin(canvas, bytes.len(), shape_fault(x, y, w, h), color) {
+    let fault = or_else(judge(canvas, bytes.len()), shape_fault(x, y, w, h));
+    match begin(fault, canvas.format, canvas.xor, color) {
         Start::Refused(r) => Drawn::Refused(r),
         Start::With(ink) => Drawn::Done(round_outline_in(
             canvas,

@@ -19,6 +19,8 @@ use canvas::Tally;
 use canvas::boxes::is_empty;
 use canvas::faults::Start;
 use canvas::faults::begin;
+use canvas::faults::judge;
+use canvas::faults::or_else;
 use canvas::plot::dab;
 use canvas::span::window;
 use curves::corners::Corners;
@@ -161,12 +163,11 @@ pub fn draw_arc(
 ) -> Drawn
     ensures { λ r. ⌜ leaves r (now (bytes .exit)) ≡ call canvas (drawArc x y w h start arc color clip) (now (bytes .entry)) ⌝ }
 {
-    match begin(
-        canvas,
-        bytes.len(),
+    let fault = or_else(
+        judge(canvas, bytes.len()),
         arc_fault(x, y, w, h, start, arc),
-        color,
-    ) {
+    );
+    match begin(fault, canvas.format, canvas.xor, color) {
         Start::Refused(r) => Drawn::Refused(r),
         Start::With(ink) => Drawn::Done(arc_in(
             canvas,

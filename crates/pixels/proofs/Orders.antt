@@ -21,7 +21,7 @@ pub record Screen (v : Canvas) (b : List ℕ) : Type 0 where
   pub long : length b ≡ extent v
   pub bytes : Bytes b
 
-touch-screen : {v : Canvas} {b : List ℕ} (h : Hit) → Screen v b → Screen v (touch v b h)
+pub touch-screen : {v : Canvas} {b : List ℕ} (h : Hit) → Screen v b → Screen v (touch v b h)
 unfolding touch
 touch-screen {v} {b} h c = record { long = length-store v b (h .x) (h .y) _ ∙ c .long; bytes = touch-bytes v b h (c .bytes) }
 

@@ -2,3 +2,4 @@
 pub mod Cells
 pub mod Pixels
 pub mod Places
+pub mod Tails

@@ -2,7 +2,7 @@
 -- All else speaks of a canvas's extent and of the word at a pixel, and knows nothing of offsets.
 use mathlib.Core.Path.{_≡_}
 use mathlib.Core.List.{List, [], _∷_}
-use Prim.Native.Nat.{ℕ, zero, suc, _+_, _*_, _/_, _%_, _<_, _≤_}
+use Prim.Native.Nat.{ℕ, zero, suc, _+_, _*_, _/_, _%_, _<_, _≤_, max}
 use lib.ListN.{length, getD, set}
 use Rattle.words.specs.Format.{Format, formatOf, bytesPerPixel}
 use Rattle.pixels.specs.declared.Canvas.{Canvas}
@@ -44,13 +44,17 @@ form v = formatOf (v .format)
 abbrev pub size : Canvas → ℕ
 size v = bytesPerPixel (form v)
 
--- "lent bytes: width times height pixels in rows, each little-endian"
-unfoldable pub pixel : Canvas → ℕ → ℕ → List Cell
-pixel v x y = cells (size v) ((y * v .width + x) * size v)
+-- "a row length in pixels, at least the width": a shorter one is refused, and counts as the width here.
+unfoldable pub pitch : Canvas → ℕ
+pitch v = max (v .width) (v .row)
 
--- "the exact byte size"
+-- "lent bytes: width times height pixels in rows, each little-endian", a pitch from row to row.
+unfoldable pub pixel : Canvas → ℕ → ℕ → List Cell
+pixel v x y = cells (size v) ((y * pitch v + x) * size v)
+
+-- "row length times height", times the bytes of a pixel.
 unfoldable pub extent : Canvas → ℕ
-extent v = v .height * v .width * size v
+extent v = v .height * pitch v * size v
 
 -- The word of the pixel at x and y, and the bytes with another.
 unfoldable pub loadAt : Canvas → List ℕ → ℕ → ℕ → ℕ
@@ -59,14 +63,29 @@ loadAt v b x y = load (pixel v x y) b
 unfoldable pub storeAt : Canvas → List ℕ → ℕ → ℕ → ℕ → List ℕ
 storeAt v b x y w = store (pixel v x y) b w
 
+-- The column that a byte stands in; "Bytes in the tails" are those of the columns from the width on.
+unfoldable pub column : Canvas → ℕ → ℕ
+column v o = o / size v % pitch v
+
+abbrev pub Tail : Canvas → ℕ → Type 0
+Tail v o = v .width ≤ column v o
+
 -- A pixel of the canvas.
 pub record On (v : Canvas) (x y : ℕ) : Type 0 where
   pub across : x < v .width
   pub down : y < v .height
+
+-- Sides and a row length that are not refused.
+pub record Bounded (v : Canvas) : Type 0 where
+  pub high : v .height ≤ 32767
+  pub rows : v .width ≤ v .row
+  pub tails : v .row ≤ 32767
 
 -- What may be counted on of a canvas that is not refused.
 pub record Sized (v : Canvas) (b : List ℕ) : Type 0 where
   pub known : v .format ≤ 4
   pub wide : v .width ≤ 32767
   pub high : v .height ≤ 32767
+  pub rows : v .width ≤ v .row
+  pub tails : v .row ≤ 32767
   pub long : length b ≡ extent v

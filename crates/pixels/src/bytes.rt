@@ -5,7 +5,7 @@ ghost use lib.Dec.{eqb};
 ghost use lib.ListN.{length};
 ghost use Rattle.words.specs.Format.{range};
 ghost use Rattle.words.specs.Ink.{inked};
-ghost use Rattle.pixels.specs.Bytes.{load, store, cells, form, size, extent, loadAt, On, Sized};
+ghost use Rattle.pixels.specs.Bytes.{load, store, cells, form, size, pitch, extent, loadAt, On, Bounded, Sized};
 ghost use Rattle.pixels.specs.Hits.{hit, touch};
 ghost use Rattle.pixels.specs.Rows.{Touched};
 use crate::Canvas;
@@ -92,16 +92,16 @@ pub(crate) fn touch4(b: &mut [u8], o: usize, ink: Ink)
 
 // The bytes of a canvas.
 fn extent_of(canvas: Canvas) -> usize
-    requires { ⌜ (canvas .width ≤ 32767) × (canvas .height ≤ 32767) ⌝ }
+    requires { ⌜ Bounded canvas ⌝ }
     ensures { λ r. ⌜ r ≡ extent canvas ⌝ }
 {
-    let area = canvas.height as usize * canvas.width as usize;
+    let area = canvas.height as usize * canvas.row as usize;
     area * words::bytes_per_pixel(canvas.format)
 }
 
 // Whether so many bytes are those of a canvas.
 pub fn is_whole(canvas: Canvas, len: usize) -> bool
-    requires { ⌜ (canvas .width ≤ 32767) × (canvas .height ≤ 32767) ⌝ }
+    requires { ⌜ Bounded canvas ⌝ }
     ensures { λ r. ⌜ r ≡ eqb len (extent canvas) ⌝ }
 {
     len == extent_of(canvas)
@@ -109,17 +109,17 @@ pub fn is_whole(canvas: Canvas, len: usize) -> bool
 
 // A pixel's number in the rows.
 pub(crate) fn index(canvas: Canvas, x: usize, y: usize) -> usize
-    requires { ⌜ (On canvas x y) × ((canvas .width ≤ 32767) × (canvas .height ≤ 32767)) ⌝ }
-    ensures { λ r. ⌜ (r ≡ y * canvas .width + x) × (r ≤ 1073676289) ⌝ }
+    requires { ⌜ (On canvas x y) × (Bounded canvas) ⌝ }
+    ensures { λ r. ⌜ (r ≡ y * pitch canvas + x) × (r ≤ 1073676289) ⌝ }
 {
-    let w = canvas.width as usize;
+    let w = canvas.row as usize;
     y * w + x
 }
 
 // Where a pixel's bytes start.
 fn offset(canvas: Canvas, x: usize, y: usize) -> usize
-    requires { ⌜ (On canvas x y) × ((canvas .width ≤ 32767) × (canvas .height ≤ 32767)) ⌝ }
-    ensures { λ r. ⌜ r ≡ (y * canvas .width + x) * size canvas ⌝ }
+    requires { ⌜ (On canvas x y) × (Bounded canvas) ⌝ }
+    ensures { λ r. ⌜ r ≡ (y * pitch canvas + x) * size canvas ⌝ }
 {
     index(canvas, x, y) * words::bytes_per_pixel(canvas.format)
 }

@@ -76,7 +76,7 @@ bitmap-is {a} {n} {ws′} room file ws e h =
     rw (dropped room n ws e) (ap (λ (p : Answer × List ℕ). (p .0, p .1 ++ drop room ws)) h′)
 
 -- The canvas is that of the line.
-pub respond-is : {r : Response} {v : Canvas} {w : ℕ} (c : Case) (b file ws : List ℕ) → w ≡ wordAt (c .head) 3 → v ≡ canvasAt (c .head) 0 (eqb w 1)
+pub respond-is : {r : Response} {v : Canvas} {w : ℕ} (c : Case) (b file ws : List ℕ) → w ≡ wordAt (c .head) 3 → v ≡ canvasAt (c .head) 0 5 (eqb w 1)
     → r ≡ respondBy (c .name) (c .args) v b file ws → r ≡ respondTo c b file ws
 unfolding respondTo
 respond-is c b file ws ew ev h = rw ew at (rw ev at h)

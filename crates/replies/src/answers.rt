@@ -195,7 +195,7 @@ pub(crate) fn respond(c: Case, bytes: &mut [u8], image: &[u8], words: &mut [u32]
     let op = c.name;
     let n = c.args;
     let h = c.head;
-    let v = sized(h, 0, word(h, 3) == 1);
+    let v = sized(h, 0, 5, word(h, 3) == 1);
     match op {
         GET => get(n, v, bytes),
         LBMP => bitmap(word(n, 0), image, words),

@@ -45,8 +45,8 @@ fn picture_call(op: u64, n: [u32; 16], v: Canvas, k: Clip, image: &[u8], bytes: 
             k,
         ),
         DRAW => {
-            let s = sized(n, 4, false);
-            images::draw(v, bytes, x, y, w, h, s, image, int(n, 8), int(n, 9), k)
+            let s = sized(n, 4, 8, false);
+            images::draw(v, bytes, x, y, w, h, s, image, int(n, 9), int(n, 10), k)
         }
         _ => Drawn::Done(Tally { landed: 0 }),
     }

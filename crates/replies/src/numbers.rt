@@ -6,6 +6,7 @@ ghost use Rattle.replies.specs.Numbers.{wordAt, intAt, colorAt, clipAt, 
 use canvas::Clip;
 use canvas::span::signed;
 use cases::COPY;
+use cases::DRAW;
 use cases::FILL;
 use cases::INVERT;
 use cases::LINE;
@@ -64,15 +65,17 @@ pub(crate) fn clip(n: [u32; 16], i: usize) -> Clip
     }
 }
 
-// A canvas, whose format, width and height begin at the word i.
-pub(crate) fn sized(n: [u32; 16], i: usize, xor: bool) -> Canvas
+// A canvas, whose format, width and height begin at the word i, and whose row length is the word j.
+pub(crate) fn sized(n: [u32; 16], i: usize, j: usize, xor: bool) -> Canvas
     requires { ⌜ i ≤ 12 ⌝ }
-    ensures { λ r. ⌜ r ≡ canvasAt n i xor ⌝ }
+    requires { ⌜ j < 16 ⌝ }
+    ensures { λ r. ⌜ r ≡ canvasAt n i j xor ⌝ }
 {
     Canvas {
         format: word(n, i),
         width: word(n, i + 1),
         height: word(n, i + 2),
+        row: word(n, j),
         xor,
     }
 }
@@ -86,6 +89,7 @@ pub(crate) fn clip_at(name: u64) -> usize
         INVERT => 4,
         PUT | COPY => 6,
         LINE | RECT | FILL => 8,
+        DRAW => 11,
         _ => 10,
     }
 }

@@ -1,6 +1,6 @@
 -- The public functions as makers of calls: each step of a run is the contract of the function itself. A new call adds a constructor of
--- `Made` and a case of `made-is` and of `colored`.
-use mathlib.Core.Path.{_≡_, ap, _∙_}
+-- `Made` and a case of `made-is`, of `colored` and of `rowless`.
+use mathlib.Core.Path.{_≡_, refl, ap, _∙_}
 use mathlib.Core.List.{List}
 use Prim.Native.Nat.{ℕ}
 use lib.IntN.{ℤ}
@@ -21,6 +21,7 @@ use Rattle.canvas.specs.Call.{draw as drawCall}
 use Rattle.ovals.specs.Call.{drawArc, fillArc, drawRoundRect, fillRoundRect}
 use Rattle.canvas.proofs.Determined.{leaves-same}
 use Rattle.canvas.proofs.Reverse.{Colored}
+use Rattle.canvas.proofs.Pictures.{Rowless}
 use Rattle.canvas.proofs.put_pixel.Kinds as put-pixel-kinds
 use Rattle.canvas.proofs.put_pixel.Reads as put-pixel
 use Rattle.canvas.proofs.draw_line.Kinds as draw-line-kinds
@@ -41,7 +42,10 @@ use Rattle.canvas.proofs.invert_rect.Kinds as invert-rect-kinds
 use Rattle.canvas.proofs.invert_rect.Reads as invert-rect
 use Rattle.images.proofs.draw.Kinds as draw-kinds
 use Rattle.images.proofs.draw.Reads as draw
-use Rattle.screens.proofs.Runs.{Ran, answer, call-answers, Maker}
+use Rattle.images.proofs.copy_area.Kinds as copy-area-kinds
+use Rattle.images.proofs.copy_area.Reads as copy-area
+use Rattle.screens.proofs.Sides.{of-line, of-outline, of-fill, of-arc, of-pie, of-round, of-round-fill}
+use Rattle.screens.proofs.Runs.{Ran, answer, call-answers, Copy, copy, Maker}
 
 pub data Made : Canvas → Call → List ℕ → Drawn → List ℕ → Type 0 where
   by-put-pixel : {κs : _} {v : Canvas} {m : RefT (List ℕ)} {x y : ℤ} {c : Color} {k : Clip} {d : Drawn} {s : _}
@@ -106,6 +110,26 @@ colored (by-draw q) = tt
 told : {v : Canvas} {k : Call} {b b′ : List ℕ} {d : Drawn} → Made v k b d b′ → d ≡ answer v (length b) k
 told {v} {k} {b} {b′} {d} m = leaves-same d (answer v (length b) k) b′ (call v k b .bytes) (made-is m ∙ call-answers v k b) .0
 
+rowless : {v : Canvas} {k : Call} {b b′ : List ℕ} {d : Drawn} → Made v k b d b′ → Rowless k
+rowless (by-put-pixel q) = λ v r. refl
+rowless (by-draw-line q) = of-line _ _ _ _
+rowless (by-draw-rect q) = of-outline _ _ _ _
+rowless (by-fill-rect q) = of-fill _ _ _ _
+rowless (by-draw-arc q) = of-arc _ _ _ _ _ _
+rowless (by-fill-arc q) = of-pie _ _ _ _ _ _
+rowless (by-draw-round-rect q) = of-round _ _ _ _ _ _
+rowless (by-fill-round-rect q) = of-round-fill _ _ _ _ _ _
+rowless (by-invert-rect q) = of-fill _ _ _ _
+rowless (by-draw q) = tt
+
+pub data Copied : Canvas → Copy → List ℕ → List ℕ → Type 0 where
+  by-copy-area : {κs : _} {v : Canvas} {m : RefT (List ℕ)} {dx dy sx sy : ℤ} {w h : ℕ} {k : Clip} {d : Drawn} {s : _}
+      → Ran copy-area-kinds.ps copy-area-kinds.r copy-area.Post κs (v, (m, (dx, (dy, (sx, (sy, (w, (h, (k, tt))))))))) d s
+      → Copied v (record { dx = dx; dy = dy; sx = sx; sy = sy; w = w; h = h; clip = k }) (now m) (now (s .1 .0))
+
+copied : {v : Canvas} {k : Copy} {b b′ : List ℕ} → Copied v k b b′ → b′ ≡ copy v k b .bytes
+copied (by-copy-area q) = ap (λ (o : Outcome). o .bytes) (q .post)
+
 -- the calls of `canvas`, `ovals` and `images`
 pub called : Maker
 called = record {
@@ -115,4 +139,7 @@ called = record {
   leaving = λ m. ap (λ (o : Outcome). o .bytes) (made-is m);
   telling = told;
   colored = colored;
+  rowless = rowless;
+  Copied = Copied;
+  copying = copied;
 }

@@ -13,6 +13,7 @@ use Rattle.words.specs.Format.{formatOf, bytesPerPixel}
 use Rattle.pixels.specs.declared.Canvas.{Canvas}
 use Rattle.pixels.specs.Bytes.{extent}
 use Rattle.pixels.proofs.bytes.Cells.{Bytes}
+use Rattle.pixels.proofs.bytes.Tails.{even-extent}
 use Rattle.canvas.specs.declared.Clip.{Clip}
 use Rattle.canvas.specs.declared.Drawn.{Drawn}
 use Rattle.canvas.specs.declared.faults.Verdict.the-variants.{Sound}
@@ -20,6 +21,7 @@ use Rattle.canvas.specs.Faults.{formatFault, sizeFault, lengthFault, orElse, ve
 use Rattle.canvas.specs.Call.{Outcome, statusOf}
 use Rattle.canvas.specs.Call.{draw as drawCall}
 use Rattle.canvas.proofs.Accepted.{accepted}
+use Rattle.canvas.proofs.Tails.{even-verdict}
 use Rattle.res.specs.declared.Icon.{Icon}
 use Rattle.res.specs.declared.Found.the-variants.{Here}
 use Rattle.res.specs.Search.{firstIcon, iconPixels}
@@ -28,9 +30,9 @@ use Rattle.res.proofs.decode_res.Reads as decode-res
 use Rattle.res.proofs.icon_pixels.Reads as icon-pixels
 use Rattle.screens.proofs.Called.{Made, made-is}
 
--- An icon as a canvas: its format is RGB332, and a source's switch says nothing.
+-- An icon as a canvas: its format is RGB332, its rows have no tails, and a source's switch says nothing.
 abbrev pub asCanvas : Bool → Icon → Canvas
-asCanvas x i = record { format = 0; width = i .width; height = i .height; xor = x }
+asCanvas x i = record { format = 0; width = i .width; height = i .height; row = i .width; xor = x }
 
 -- its sides are bytes of the file
 small : (f : List ℕ) (i : Icon) → Bytes f → firstIcon f ≡ Here i → (i .width ≤ 255) × (i .height ≤ 255)
@@ -41,11 +43,13 @@ small f i o e =
     (omega (arith, w, o .byte (s .at + 1)), omega (arith, h, o .byte (s .at + 2)))
 
 pub no-fault : (f : List ℕ) (i : Icon) (x : Bool) → Bytes f → firstIcon f ≡ Here i → verdict (asCanvas x i) (length (iconPixels f)) ≡ Sound
-unfolding verdict formatFault sizeFault lengthFault orElse extent formatOf bytesPerPixel
+unfolding formatFault sizeFault lengthFault orElse formatOf bytesPerPixel
 no-fault f i x o e =
     let s = small f i o e in
     let n : length (iconPixels f) ≡ i .height * i .width * 1 = part-length f i e ∙ mul-comm (i .width) (i .height) ∙ omega arith in
-    rw (le-ltb 32767 (i .width) (omega (arith, s .0)), le-ltb 32767 (i .height) (omega (arith, s .1)), eq-eqb _ _ n) refl
+    let m : length (iconPixels f) ≡ extent (asCanvas x i) = n ∙ sym (even-extent (asCanvas x i) refl) in
+    even-verdict (asCanvas x i) (length (iconPixels f)) refl
+    ∙ rw (le-ltb 32767 (i .width) (omega (arith, s .0)), le-ltb 32767 (i .height) (omega (arith, s .1)), eq-eqb _ _ m) refl
 
 -- Of the public functions: where `decode_res` found an icon in a file, and `icon_pixels` handed a part of it back, a `draw`
 -- from that part on a canvas that is not refused is accepted. `Bytes` is asked as in Runs.

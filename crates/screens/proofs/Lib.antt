@@ -1,5 +1,7 @@
 pub mod Cheats
 pub mod Runs
+pub mod Tails
+pub mod Sides
 pub mod Bars
 pub mod Called
 pub mod Linked

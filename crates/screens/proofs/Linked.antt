@@ -1,5 +1,5 @@
 -- The functions that C and Rust link as makers of calls, on records and numbers: each step of a run is the contract of the function itself.
-use mathlib.Core.Path.{_≡_, ap, _∙_}
+use mathlib.Core.Path.{_≡_, refl, ap, _∙_}
 use mathlib.Core.List.{List}
 use Prim.Native.Nat.{ℕ}
 use lib.IntN.{ℤ}
@@ -13,6 +13,7 @@ use Rattle.canvas.specs.Call.{Call, putPixel, drawLine, drawRect, fillRect, inv
 use Rattle.canvas.specs.Call.{draw as drawCall}
 use Rattle.ovals.specs.Call.{drawArc, fillArc, drawRoundRect, fillRoundRect}
 use Rattle.canvas.proofs.Reverse.{Colored}
+use Rattle.canvas.proofs.Pictures.{Rowless}
 use Rattle.tuyrashka.specs.Exported.{canvasOf, sourceOf, clipOf, colorOf, drawnOf, gives}
 use Rattle.tuyrashka.proofs.tuyrashka_put_pixel.Kinds as put-pixel-kinds
 use Rattle.tuyrashka.proofs.tuyrashka_put_pixel.Reads as put-pixel
@@ -34,7 +35,10 @@ use Rattle.tuyrashka.proofs.tuyrashka_invert_rect.Kinds as invert-rect-kinds
 use Rattle.tuyrashka.proofs.tuyrashka_invert_rect.Reads as invert-rect
 use Rattle.tuyrashka.proofs.tuyrashka_draw.Kinds as draw-kinds
 use Rattle.tuyrashka.proofs.tuyrashka_draw.Reads as draw
-use Rattle.screens.proofs.Runs.{Ran, answer, call-answers, Maker}
+use Rattle.tuyrashka.proofs.tuyrashka_copy_area.Kinds as copy-area-kinds
+use Rattle.tuyrashka.proofs.tuyrashka_copy_area.Reads as copy-area
+use Rattle.screens.proofs.Sides.{of-line, of-outline, of-fill, of-arc, of-pie, of-round, of-round-fill}
+use Rattle.screens.proofs.Runs.{Ran, answer, call-answers, Copy, copy, Maker}
 
 -- An answer is the number returned and the record given back.
 pub data Made : Canvas → Call → List ℕ → ℕ × List ℕ → List ℕ → Type 0 where
@@ -106,6 +110,27 @@ unfolding gives
 told {v} {k} {b} m =
     ap (λ (t : ℕ × (List ℕ × List ℕ)). (t .0, t .1 .0)) (made-is m) ∙ ap (λ (o : Outcome). (o .status, drawnOf (o .count))) (call-answers v k b)
 
+rowless : {v : Canvas} {k : Call} {b b′ : List ℕ} {a : ℕ × List ℕ} → Made v k b a b′ → Rowless k
+rowless (by-put-pixel q) = λ v r. refl
+rowless (by-draw-line q) = of-line _ _ _ _
+rowless (by-draw-rect q) = of-outline _ _ _ _
+rowless (by-fill-rect q) = of-fill _ _ _ _
+rowless (by-draw-arc q) = of-arc _ _ _ _ _ _
+rowless (by-fill-arc q) = of-pie _ _ _ _ _ _
+rowless (by-draw-round-rect q) = of-round _ _ _ _ _ _
+rowless (by-fill-round-rect q) = of-round-fill _ _ _ _ _ _
+rowless (by-invert-rect q) = of-fill _ _ _ _
+rowless (by-draw q) = tt
+
+pub data Copied : Canvas → Copy → List ℕ → List ℕ → Type 0 where
+  by-copy-area : {κs : _} {g m z n : RefT (List ℕ)} {dx dy sx sy : ℤ} {w h : ℕ} {r : ℕ} {s : _}
+      → Ran copy-area-kinds.ps copy-area-kinds.r copy-area.Post κs (g, (m, (dx, (dy, (sx, (sy, (w, (h, (z, (n, tt)))))))))) r s
+      → Copied (canvasOf (now g)) (record { dx = dx; dy = dy; sx = sx; sy = sy; w = w; h = h; clip = clipOf (now z) }) (now m) (now (s .1 .0))
+
+copied : {v : Canvas} {k : Copy} {b b′ : List ℕ} → Copied v k b b′ → b′ ≡ copy v k b .bytes
+unfolding gives
+copied (by-copy-area q) = ap (λ (t : ℕ × (List ℕ × List ℕ)). t .1 .1) (q .post)
+
 -- the calls of include/tuyrashka.h
 pub linked : Maker
 linked = record {
@@ -115,4 +140,7 @@ linked = record {
   leaving = left;
   telling = told;
   colored = colored;
+  rowless = rowless;
+  Copied = Copied;
+  copying = copied;
 }

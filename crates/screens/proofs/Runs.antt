@@ -6,7 +6,8 @@ use mathlib.Core.List.{List, [], _∷_, _++_, map, zip, zipWith, List·Permᴰ, 
 use Prim.Native.Nat.{ℕ, _+_, _*_, _/_, _%_, _≤_}
 use native.Mathlib.Omega.{arith}
 use native.Mathlib.Nat.{zero-add}
-use lib.ListN.{length}
+use lib.IntN.{ℤ}
+use lib.ListN.{length, getD}
 use contract.Lifetimes.{Lfts}
 use denote.Triple.Clauses.{AtExit}
 use borrow.Fn.Kinds.{PK, RK, Dens, GoodsP, Out, resT, endedOf}
@@ -15,22 +16,26 @@ use Rattle.words.specs.Format.{Format, rgb332, rgb565, rgb8, argb, abgr, none, 
 use Rattle.words.specs.Ink.{keepsAlpha, settled}
 use Rattle.words.specs.Word.{toColor, color, level5, level6}
 use Rattle.pixels.specs.declared.Canvas.{Canvas}
+use Rattle.canvas.specs.declared.Clip.{Clip}
 use Rattle.canvas.specs.declared.Drawn.{Drawn}
 use Rattle.canvas.specs.declared.Drawn.the-variants.{Refused, Done}
 use Rattle.canvas.specs.declared.Refusal.{Refusal}
 use Rattle.canvas.specs.declared.faults.Verdict.{Verdict}
 use Rattle.canvas.specs.declared.faults.Verdict.the-variants.{Sound, Faulty}
-use Rattle.pixels.specs.Bytes.{form, loadAt, On}
+use Rattle.pixels.specs.Bytes.{form, loadAt, Tail, On}
 use Rattle.pixels.specs.Hits.{Hit, paint}
 use Rattle.canvas.specs.Faults.{orElse, verdict}
 use Rattle.canvas.specs.Plot.{hits}
-use Rattle.canvas.specs.Call.{Call, clipOf, faultOf, plots, statusOf, countOf, leaves, ruled, drawing, call}
+use Rattle.canvas.specs.Call.{Call, clipOf, faultOf, plots, Outcome, statusOf, countOf, leaves, ruled, drawing, call}
+use Rattle.images.specs.Areas.{copyArea}
 use Rattle.canvas.specs.Calls.{after, landings, stains, struck, those, inverts}
 use Rattle.pixels.proofs.bytes.Cells.{Bytes}
 use Rattle.pixels.proofs.Hits.{paint-length}
 use Rattle.canvas.proofs.Reverse.{Colored, Fine, end, then}
 use Rattle.canvas.proofs.Reverse as reverse
 use Rattle.canvas.proofs.Stains as stain
+use Rattle.canvas.proofs.Tails.{tails-after}
+use Rattle.canvas.proofs.Pictures.{rowed, Alike, Rowless, AllRowless, no-call, one-call, same-landed, after-alike}
 
 -- ---- a function that was run
 
@@ -72,8 +77,22 @@ call-length v k b =
 
 -- ---- functions that make calls
 
+-- the arguments of an area copy
+pub record Copy : Type 0 where
+  pub dx : ℤ
+  pub dy : ℤ
+  pub sx : ℤ
+  pub sy : ℤ
+  pub w : ℕ
+  pub h : ℕ
+  pub clip : Clip
+
+abbrev pub copy : Canvas → Copy → List ℕ → Outcome
+copy v k b = copyArea v (k .dx) (k .dy) (k .sx) (k .sy) (k .w) (k .h) (k .clip) b
+
 -- `Made v k b a b′`: on the canvas v with b in the bytes lent, the function of the call k was given the arguments of k, answered a and
--- left b′. It leaves what the call leaves and tells the call's answer, and the colours it was given are of bytes.
+-- left b′. It leaves what the call leaves and tells the call's answer, the colours it was given are of bytes, and no shape looks at the row.
+-- `Copied` is the same of area copy, which is no call that a second one takes away.
 pub record Maker : Type 1 where
   pub Answer : Type 0
   pub tell : Drawn → Answer
@@ -81,6 +100,9 @@ pub record Maker : Type 1 where
   pub leaving : {v : Canvas} {k : Call} {b b′ : List ℕ} {a : Answer} → Made v k b a b′ → b′ ≡ call v k b .bytes
   pub telling : {v : Canvas} {k : Call} {b b′ : List ℕ} {a : Answer} → Made v k b a b′ → a ≡ tell (answer v (length b) k)
   pub colored : {v : Canvas} {k : Call} {b b′ : List ℕ} {a : Answer} → Made v k b a b′ → Colored k
+  pub rowless : {v : Canvas} {k : Call} {b b′ : List ℕ} {a : Answer} → Made v k b a b′ → Rowless k
+  pub Copied : Canvas → Copy → List ℕ → List ℕ → Type 0
+  pub copying : {v : Canvas} {k : Copy} {b b′ : List ℕ} → Copied v k b b′ → b′ ≡ copy v k b .bytes
 
 -- ---- calls one after the other
 
@@ -220,6 +242,31 @@ module _ (M : Maker) {v : Canvas} {ks ls : List Call} {b b′ b″ : List ℕ} {
     -- and where it is kept and every call does
     pub inversions-back : keepsAlpha (form v) ≡ true → ((k : Call) → List·Mem k ks → inverts k ≡ true) → b″ ≡ b
     inversions-back a n = unstained (λ k m. n k m ∙ sym a)
+
+-- the bytes of the tails, in every format: of one run, and so of two, with XOR on or off
+pub tails-back : (M : Maker) {v : Canvas} {ks : List Call} {b b′ : List ℕ} {ds : List (M .Answer)} → Run M v ks b ds b′ → (o : ℕ) → Tail v o → getD b′ o 0 ≡ getD b o 0
+tails-back M {v} {ks} {b} p o t = ap (λ (c : List ℕ). getD c o 0) (run-is p) ∙ tails-after v ks b o t
+
+-- two runs of the same calls on canvases that differ in the row alone, from bytes that show the same, with XOR on or off: the same answers,
+-- and bytes that show the same. So a canvas with tails is drawn on as its visible part is.
+module _ (M : Maker) (v : Canvas) (r : ℕ) where
+  looks : {ks : List Call} {b b′ : List ℕ} {ds : List (M .Answer)} → Run M v ks b ds b′ → AllRowless ks
+  looks stop = no-call
+  looks (go-on m p) = one-call (M .rowless m) (looks p)
+
+  told-alike : (b t : List ℕ) → verdict v (length b) ≡ Sound → verdict (rowed v r) (length t) ≡ Sound → (ks : List Call) → AllRowless ks
+      → map (λ k. M .tell (answer v (length b) k)) ks ≡ map (λ k. M .tell (answer (rowed v r) (length t) k)) ks
+  told-alike b t f g [] no-call = refl
+  told-alike b t f g (k ∷ ks) (one-call e es) =
+      let z = same-landed v r b t f g k e in
+      ap₂ (λ (a : M .Answer) (l : List (M .Answer)). a ∷ l) (ap (M .tell) (sym (ap₂ said (z .0) (z .1)))) (told-alike b t f g ks es)
+
+  pub same-picture : {ks : List Call} {b b′ t t′ : List ℕ} {ds es : List (M .Answer)} → Bytes b → Bytes t → verdict v (length b) ≡ Sound → verdict (rowed v r) (length t) ≡ Sound
+      → Alike v b (rowed v r) t → Run M v ks b ds b′ → Run M (rowed v r) ks t es t′ → (ds ≡ es) × Alike v b′ (rowed v r) t′
+  same-picture {ks} {b} {b′} {t} {t′} o i f g a p q = (
+    run-answers p ∙ told-alike b t f g ks (looks p) ∙ sym (run-answers q),
+    rw (run-is p, run-is q) (after-alike v r b t f g ks o i (fine p) (looks p) a),
+  )
 
 -- on a canvas that is refused, for any run, and so for two: every answer is that refusal, and the bytes are as before
 pub all-refused : (M : Maker) {v : Canvas} {ks : List Call} {b b′ : List ℕ} {ds : List (M .Answer)} {r : Refusal} → verdict v (length b) ≡ Faulty r → Run M v ks b ds b′

@@ -8,18 +8,19 @@ use canvas::span::signed;
 use pixels::Canvas;
 use words::Color;
 
-pub(crate) fn canvas_of(c: &[u32; 4]) -> Canvas
+pub(crate) fn canvas_of(c: &[u32; 5]) -> Canvas
     ensures { λ r. ⌜ r ≡ canvasOf (now (c .entry)) ⌝ }
 {
     Canvas {
         format: c[0],
         width: c[1],
         height: c[2],
+        row: c[4],
         xor: c[3] != 0,
     }
 }
 
-pub(crate) fn source_of(c: &[u32; 4]) -> Canvas
+pub(crate) fn source_of(c: &[u32; 5]) -> Canvas
     ensures { λ r. ⌜ r ≡ sourceOf (now (c .entry)) ⌝ }
 {
     let s = canvas_of(c);
@@ -27,6 +28,7 @@ pub(crate) fn source_of(c: &[u32; 4]) -> Canvas
         format: s.format,
         width: s.width,
         height: s.height,
+        row: s.row,
         xor: false,
     }
 }

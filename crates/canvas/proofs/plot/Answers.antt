@@ -1,5 +1,6 @@
 -- From the inner functions to the calls: what a sound canvas and a faulty one answer.
 use mathlib.Core.Path.{_≡_, refl, sym, ap, ap₂, _∙_}
+use mathlib.Core.Bool.{Bool}
 use mathlib.Core.List.{List, [], _∷_}
 use Prim.Native.Nat.{ℕ, _+_, _<_}
 use native.Mathlib.Nat.{zero-add}
@@ -7,7 +8,7 @@ use native.Mathlib.Omega.{arith}
 use lib.ListN.{length}
 use Rattle.words.specs.declared.Color.{Color}
 use Rattle.words.specs.declared.Ink.{Ink}
-use Rattle.words.specs.Format.{range}
+use Rattle.words.specs.Format.{formatOf, range}
 use Rattle.words.specs.Ink.{plotInk, inked}
 use Rattle.words.proofs.Laws.{Channels, ink-is}
 use Rattle.words.proofs.Stamps.{plot-keeps}
@@ -29,7 +30,7 @@ use Rattle.canvas.specs.Start.{started}
 use Rattle.canvas.specs.Walk.{Work, work, Keeps, Did}
 use Rattle.pixels.proofs.bytes.Cells.{Bytes}
 use Rattle.canvas.proofs.plot.Paints.{drawn-is, drawn-ink}
-use Rattle.canvas.proofs.faults.Verdicts.{both-sound, sized}
+use Rattle.canvas.proofs.faults.Verdicts.{or-nothing, both-sound, sized}
 
 -- points in one dye
 pub dip-tint : (g : Dye → ℕ → ℕ) (d : Dye) (ps : List Point) → dip g (tint d ps) ≡ inks (g d) ps
@@ -91,28 +92,35 @@ draws v b c d ps i a t b′ h o k w =
 
 -- ---- what the start of a call of one colour says
 
-started-refused : (a : Verdict) (v : Canvas) (color : Color) (r : Refusal) → started a v color ≡ start.Refused r → a ≡ Faulty r
-unfolding started
-started-refused Sound v color r e = absurd (let z : _≡_ {A = ℕ} 0 1 = cc in omega arith)
-started-refused (Faulty s) v color r e = cc
+-- the fault that a call starts with: the canvas's alone, or its own behind it
+pub alone : {d f : Verdict} → d ≡ f → d ≡ orElse f Sound
+alone {f = f} e = e ∙ sym (or-nothing f)
 
-started-with : (a : Verdict) (v : Canvas) (color : Color) (i : Ink) → started a v color ≡ start.With i → (a ≡ Sound) × (i ≡ plotInk (form v) (v .xor) color)
-unfolding started
-started-with Sound v color i e = (refl, cc)
-started-with (Faulty s) v color i e = absurd (let z : _≡_ {A = ℕ} 0 1 = cc in omega arith)
+pub first : {d a b f o : Verdict} → d ≡ orElse a b → a ≡ f → b ≡ o → d ≡ orElse f o
+first e p q = e ∙ ap₂ orElse p q
 
-module _ (v : Canvas) (b : List ℕ) (own : Verdict) (color : Color) (o : Verdict) (s : Start) (f : o ≡ own) (e : s ≡ started (orElse (verdict v (length b)) o) v color) where
-  start-is : s ≡ started (orElse (verdict v (length b)) own) v color
+started-refused : (a : Verdict) (f : ℕ) (x : Bool) (color : Color) (r : Refusal) → started a f x color ≡ start.Refused r → a ≡ Faulty r
+unfolding started
+started-refused Sound f x color r e = absurd (let z : _≡_ {A = ℕ} 0 1 = cc in omega arith)
+started-refused (Faulty s) f x color r e = cc
+
+started-with : (a : Verdict) (f : ℕ) (x : Bool) (color : Color) (i : Ink) → started a f x color ≡ start.With i → (a ≡ Sound) × (i ≡ plotInk (formatOf f) x color)
+unfolding started
+started-with Sound f x color i e = (refl, cc)
+started-with (Faulty s) f x color i e = absurd (let z : _≡_ {A = ℕ} 0 1 = cc in omega arith)
+
+module _ (v : Canvas) (b : List ℕ) (own : Verdict) (color : Color) (d : Verdict) (s : Start) (f : d ≡ orElse (verdict v (length b)) own) (e : s ≡ started d (v .format) (v .xor) color) where
+  start-is : s ≡ started (orElse (verdict v (length b)) own) (v .format) (v .xor) color
   start-is = rw (← f) e
 
   -- a refusal is the first fault
   pub start-refuses : (c : Clip) (ps : List Plot) (r : Refusal) → s ≡ start.Refused r → leaves (Refused r) b ≡ drawing (orElse (verdict v (length b)) own) v c ps b
-  start-refuses c ps r h = declines v b (orElse (verdict v (length b)) own) c ps r (started-refused _ v color r (sym start-is ∙ h))
+  start-refuses c ps r h = declines v b (orElse (verdict v (length b)) own) c ps r (started-refused _ (v .format) (v .xor) color r (sym start-is ∙ h))
 
   -- an ink comes without a fault, and is the colour's
   module _ (i : Ink) (h : s ≡ start.With i) where
     with-is : (orElse (verdict v (length b)) own ≡ Sound) × (i ≡ plotInk (form v) (v .xor) color)
-    with-is = started-with (orElse (verdict v (length b)) own) v color i (sym start-is ∙ h)
+    with-is = started-with (orElse (verdict v (length b)) own) (v .format) (v .xor) color i (sym start-is ∙ h)
 
     pub start-sized : Sized v b
     start-sized = sized v b (both-sound (verdict v (length b)) own (with-is .0) .0)

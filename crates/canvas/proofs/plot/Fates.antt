@@ -1,7 +1,7 @@
 -- The fate of a plot, from what the code tests.
 use mathlib.Core.Path.{_≡_, refl, sym, _∙_}
 use mathlib.Core.Bool.{Bool, true, false, cond}
-use Prim.Native.Nat.{ℕ, _+_, _-_, _≤_, _<_}
+use Prim.Native.Nat.{ℕ, _+_, _-_, _%_, _^_, _≤_, _<_}
 use native.Mathlib.Omega.{arith}
 use native.Mathlib.Decide.{decLt}
 use native.Mathlib.Nat.{zero-add}
@@ -39,6 +39,14 @@ side-before n p h = sym (rw (lowered-neg p h) (side-minus n (2147483647 - p)))
 pub side-tests : (n p : ℕ) → 2147483648 ≤ p → ltb (p - 2147483648) n ≡ within (pos 0) n (lowered p)
 unfolding within
 side-tests n p h = rw (lowered-pos p h, leb·zero (p - 2147483648), zero-add n) refl
+
+-- r is how far p lies past the zero, modulo 2^64
+pub side-around : (n p r : ℕ) → n < 2 ^ 32 → p < 2 ^ 64 → r < 2 ^ 64 → (r + 2147483648) % 2 ^ 64 ≡ p → ltb r n ≡ within (pos 0) n (lowered p)
+side-around n p r k l m e = go (decLt p 2147483648)
+  where
+    go : Dec (p < 2147483648) → ltb r n ≡ within (pos 0) n (lowered p)
+    go (yes h) = le-ltb r n (omega arith) ∙ side-before n p h
+    go (no h) = let d : r ≡ p - 2147483648 = omega arith in rw d (side-tests n p (omega arith))
 
 pub on-canvas : (v : Canvas) (x y : ℕ) → x < v .width → y < v .height → onCanvas v (pos x) (pos y) ≡ true
 unfolding onCanvas

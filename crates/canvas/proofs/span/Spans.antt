@@ -2,7 +2,7 @@
 use mathlib.Core.Path.{_≡_, refl, sym, ap, ap₂, _∙_}
 use mathlib.Core.Bool.{Bool, true, false, cond, _&&_}
 use mathlib.Core.List.{List, [], _∷_, _++_, append-nil}
-use Prim.Native.Nat.{ℕ, zero, suc, _+_, _-_, _≤_, _<_, min, max}
+use Prim.Native.Nat.{ℕ, zero, suc, _+_, _-_, _%_, _^_, _≤_, _<_, min, max}
 use native.Mathlib.Omega.{arith}
 use native.Mathlib.Nat.{zero-add, add-zero, suc-add, min-le-left, min-le-right}
 use native.Mathlib.Decide.{decLt, decLe}
@@ -19,7 +19,7 @@ use Rattle.canvas.specs.Clip.{within, inClip}
 use Rattle.canvas.specs.Boxes.{select}
 use Rattle.canvas.specs.Walk.{lifted, lowered, Holds, Cut, span, cutOf}
 use Rattle.pixels.specs.Rows.{run}
-use Rattle.canvas.proofs.span.Lifts.{lift-is, lower-lift, lowered-neg, lowered-pos}
+use Rattle.canvas.proofs.span.Lifts.{lift-is, lift-lt, lower-lift, lowered-neg, lowered-pos}
 
 pub both-no : (t : Bool) → (t && false) ≡ false
 both-no true = refl
@@ -59,11 +59,24 @@ within-lifted a n p h = ap (λ (z : ℤ). within z n (pos p)) (sym (lower-lift a
 
 -- what `in_span` answers
 module _ (a : ℤ) (n p u : ℕ) (s : SFits w32 a) (e : u ≡ lifted (toZ w32 (ofZ w32 a))) where
-  pub span-no : 2147483648 + p < u → false ≡ within a n (pos p)
+  span-no : 2147483648 + p < u → false ≡ within a n (pos p)
   span-no h = rw (within-lifted a n p s, ← lift-is a u s e, lt-leb _ _ h)
 
-  pub span-yes : u ≤ 2147483648 + p → ltb (2147483648 + p) (u + n) ≡ within a n (pos p)
+  span-yes : u ≤ 2147483648 + p → ltb (2147483648 + p) (u + n) ≡ within a n (pos p)
   span-yes h = rw (within-lifted a n p s, ← lift-is a u s e, le-leb _ _ h)
+
+  -- r is how far the point lies past the span's first, modulo 2^64
+  pub span-around : (r : ℕ) → n < 2 ^ 32 → p < 32768 → r < 2 ^ 64 → (r + u) % 2 ^ 64 ≡ 2147483648 + p → ltb r n ≡ within a n (pos p)
+  span-around r k l m i = go (decLt (2147483648 + p) u)
+    where
+      low : u < 4294967296
+      low = lift-lt a u s e
+
+      go : Dec (2147483648 + p < u) → ltb r n ≡ within a n (pos p)
+      go (yes h) = le-ltb r n (omega (arith, low)) ∙ span-no h
+      go (no h) =
+          let j : r + u ≡ 2147483648 + p = omega (arith, low) in
+          same-leb (suc r) n (suc (2147483648 + p)) (u + n) (omega arith) (omega arith) ∙ span-yes (omega arith)
 
 -- what `in_clip` answers
 module _ (c : Clip) (x y : ℤ) (r : Bool) (s : SFits w32 (c .x)) (e : r ≡ within (toZ w32 (ofZ w32 (c .x))) (c .width) x) where

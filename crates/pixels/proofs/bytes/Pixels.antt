@@ -4,12 +4,12 @@ use mathlib.Core.Logic.{_≢_}
 use mathlib.Core.List.{List}
 use Prim.Native.Nat.{ℕ, zero, suc, _+_, _*_, _/_, _%_, _≤_, _<_}
 use native.Mathlib.Omega.{arith}
-use native.Mathlib.Nat.{mul-le-mul-right, suc-mul}
+use native.Mathlib.Nat.{mul-le-mul-right, suc-mul, lt-of-lt-of-le, le-max-left, max-eq-right}
 use lib.Arith.{digits-lt, digits-div, digits-mod}
 use lib.ListN.{length}
 use Rattle.words.specs.Format.{Format, rgb332, rgb565, rgb8, argb, abgr, none, bytesPerPixel, range}
 use Rattle.pixels.specs.declared.Canvas.{Canvas}
-use Rattle.pixels.specs.Bytes.{Cell, byte, get, cells, form, size, pixel, extent, loadAt, storeAt, On, Sized}
+use Rattle.pixels.specs.Bytes.{pitch, Cell, byte, get, cells, form, size, pixel, extent, loadAt, storeAt, On, Bounded, Sized}
 use Rattle.pixels.proofs.bytes.Cells.{cap, Bytes, Each, also, Apart, apart-far, Distinct, one, more, Aparts, end, next, Inside}
 use Rattle.pixels.proofs.bytes.Cells as in-cells
 
@@ -24,7 +24,7 @@ unfolding cells
 cells-in zero o n b e h = Each.none
 cells-in (suc s) o n b e h = let k : o < length b = omega arith in also (record { inside = k }) (cells-in s (suc o) n b e (omega arith))
 
-cells-out : (s o q : ℕ) → ((i : ℕ) → i < s → q ≢ o + i) → Each (Apart (byte q)) (cells s o)
+pub cells-out : (s o q : ℕ) → ((i : ℕ) → i < s → q ≢ o + i) → Each (Apart (byte q)) (cells s o)
 unfolding cells
 cells-out zero o q h = Each.none
 cells-out (suc s) o q h =
@@ -47,26 +47,30 @@ same-digits : (q r q′ r′ m : ℕ) → r < m → r′ < m → q * m + r ≡ q
 same-digits q r q′ r′ m h h′ e =
     (sym (digits-div q h) ∙ ap (λ (x : ℕ). x / m) e ∙ digits-div q′ h′, sym (digits-mod q h) ∙ ap (λ (x : ℕ). x % m) e ∙ digits-mod q′ h′)
 
+pub in-row : {v : Canvas} {x y : ℕ} → On v x y → x < pitch v
+unfolding pitch
+in-row {v} o = lt-of-lt-of-le (o .across) (le-max-left (v .width) (v .row))
+
 -- a pixel's cells lie within the canvas's
-pub pixel-fits : (v : Canvas) (x y : ℕ) → On v x y → (y * v .width + x) * size v + size v ≤ extent v
+pub pixel-fits : (v : Canvas) (x y : ℕ) → On v x y → (y * pitch v + x) * size v + size v ≤ extent v
 unfolding extent
 pixel-fits v x y o =
-    let k : y * v .width + x < v .height * v .width = digits-lt (o .down) (o .across) in
-    rw (← suc-mul (y * v .width + x) (size v)) (mul-le-mul-right (size v) k)
+    let k : y * pitch v + x < v .height * pitch v = digits-lt (o .down) (in-row o) in
+    rw (← suc-mul (y * pitch v + x) (size v)) (mul-le-mul-right (size v) k)
 
 module _ (v : Canvas) (b : List ℕ) (long : length b ≡ extent v) where
   inside : (x y : ℕ) → On v x y → Each (Inside b) (pixel v x y)
   unfolding pixel
-  inside x y o = cells-in (size v) ((y * v .width + x) * size v) (extent v) b long (pixel-fits v x y o)
+  inside x y o = cells-in (size v) ((y * pitch v + x) * size v) (extent v) b long (pixel-fits v x y o)
 
 aparts : (v : Canvas) (x y x′ y′ : ℕ) → On v x y → On v x′ y′ → Other x y x′ y′ → Aparts (pixel v x y) (pixel v x′ y′)
 unfolding pixel
 aparts v x y x′ y′ o o′ n = cells-apart (size v) _ (size v) _ k
   where
-    k : (i j : ℕ) → i < size v → j < size v → (y′ * v .width + x′) * size v + j ≢ (y * v .width + x) * size v + i
+    k : (i j : ℕ) → i < size v → j < size v → (y′ * pitch v + x′) * size v + j ≢ (y * pitch v + x) * size v + i
     k i j l m e =
-        let d : (y′ * v .width + x′ ≡ y * v .width + x) × (j ≡ i) = same-digits (y′ * v .width + x′) j (y * v .width + x) i (size v) m l e in
-        let f : (y′ ≡ y) × (x′ ≡ x) = same-digits y′ x′ y x (v .width) (o′ .across) (o .across) (d .0) in
+        let d : (y′ * pitch v + x′ ≡ y * pitch v + x) × (j ≡ i) = same-digits (y′ * pitch v + x′) j (y * pitch v + x) i (size v) m l e in
+        let f : (y′ ≡ y) × (x′ ≡ x) = same-digits y′ x′ y x (pitch v) (in-row o′) (in-row o) (d .0) in
         n (sym (f .1)) (sym (f .0))
 
 distinct : (v : Canvas) (x y : ℕ) → Distinct (pixel v x y)
@@ -89,7 +93,10 @@ cap-range v x y = cap-cells (form v) _
 -- ---- the laws
 
 pub sized-length : {v : Canvas} {b b′ : List ℕ} → length b′ ≡ length b → Sized v b → Sized v b′
-sized-length e r = record { known = r .known; wide = r .wide; high = r .high; long = e ∙ r .long }
+sized-length e r = record { known = r .known; wide = r .wide; high = r .high; rows = r .rows; tails = r .tails; long = e ∙ r .long }
+
+pub bounded : {v : Canvas} {b : List ℕ} → Sized v b → Bounded v
+bounded r = record { high = r .high; rows = r .rows; tails = r .tails }
 
 pub length-store : (v : Canvas) (b : List ℕ) (x y w : ℕ) → length (storeAt v b x y w) ≡ length b
 unfolding storeAt
@@ -131,3 +138,7 @@ pub record Free (v : Canvas) (e : Cell) : Type 0 where
 pub get-store : (v : Canvas) (b : List ℕ) (x y w : ℕ) (e : Cell) → Free v e → On v x y → get (storeAt v b x y w) e ≡ get b e
 unfolding storeAt
 get-store v b x y w e f o = in-cells.get-store (pixel v x y) b w e (f .free x y o)
+
+pub pitch-is : (v : Canvas) → v .width ≤ v .row → pitch v ≡ v .row
+unfolding pitch
+pitch-is v h = max-eq-right h

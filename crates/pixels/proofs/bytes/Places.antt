@@ -10,9 +10,9 @@ use lib.ListN.{length, getD}
 use Rattle.words.specs.Format.{Format, rgb332, rgb565, rgb8, argb, abgr, none, formatOf, bytesPerPixel, range}
 use Rattle.words.proofs.Laws.{range-bytes}
 use Rattle.pixels.specs.declared.Canvas.{Canvas}
-use Rattle.pixels.specs.Bytes.{get, load, store, cells, form, size, pixel, extent, loadAt, storeAt, On, Sized}
+use Rattle.pixels.specs.Bytes.{pitch, get, load, store, cells, form, size, pixel, extent, loadAt, storeAt, On, Bounded, Sized}
 use Rattle.pixels.specs.Hits.{hit, touch}
-use Rattle.pixels.proofs.bytes.Pixels.{pixel-fits}
+use Rattle.pixels.proofs.bytes.Pixels.{in-row, pixel-fits, pitch-is}
 
 -- ---- words of one, two and four bytes
 
@@ -76,23 +76,26 @@ bytes-le none = omega arith
 pub area-le : (w h : ℕ) → w ≤ 32767 → h ≤ 32767 → h * w ≤ 1073676289
 area-le w h hw hh = le-trans (mul-le-mul-right w hh) (mul-le-mul-left 32767 hw)
 
-pub index-le : (v : Canvas) (x y : ℕ) → On v x y → v .width ≤ 32767 → v .height ≤ 32767 → y * v .width + x ≤ 1073676289
-index-le v x y o hw hh =
-    let k : y * v .width + x < v .height * v .width = digits-lt (o .down) (o .across) in
-    omega (arith, area-le (v .width) (v .height) hw hh)
+pub row-index : (v : Canvas) (x y : ℕ) → v .width ≤ v .row → y * v .row + x ≡ y * pitch v + x
+row-index v x y h = rw (pitch-is v h) refl
+
+pub index-le : (v : Canvas) (x y : ℕ) → On v x y → Bounded v → y * pitch v + x ≤ 1073676289
+index-le v x y o h =
+    let k : y * pitch v + x < v .height * pitch v = digits-lt (o .down) (in-row o) in
+    omega (arith, area-le (pitch v) (v .height) (rw (pitch-is v (h .rows)) (h .tails)) (h .high))
 
 pub scaled-le : (v : Canvas) (k s : ℕ) → k ≤ 1073676289 → s ≡ size v → k * s ≤ 4294705156
 scaled-le v k s h e =
     let q : s ≤ 4 = rw e (bytes-le (form v)) in
     le-trans (mul-le-mul-right s h) (le-trans (mul-le-mul-left 1073676289 q) (omega arith))
 
-pub extent-is : (v : Canvas) (s : ℕ) → s ≡ size v → v .height * v .width * s ≡ extent v
+pub extent-is : (v : Canvas) (s : ℕ) → v .width ≤ v .row → s ≡ size v → v .height * v .row * s ≡ extent v
 unfolding extent
-extent-is v s e = rw e refl
+extent-is v s h e = rw (e, pitch-is v h) refl
 
 -- ---- the pixel at an offset, of s bytes
 
-module _ (v : Canvas) (b : List ℕ) (x y o : ℕ) (r : Sized v b) (p : On v x y) (e : o ≡ (y * v .width + x) * size v) (s : ℕ) (z : size v ≡ s) where
+module _ (v : Canvas) (b : List ℕ) (x y o : ℕ) (r : Sized v b) (p : On v x y) (e : o ≡ (y * pitch v + x) * size v) (s : ℕ) (z : size v ≡ s) where
   pub in-place : o + s ≤ length b
   in-place = rw (e, ← z, r .long) (pixel-fits v x y p)
 

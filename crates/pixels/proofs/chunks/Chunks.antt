@@ -8,7 +8,7 @@ use native.Mathlib.Nat.{add-zero}
 use lib.ListN.{length, getD, set, length-set}
 use lib.Seq.{getD-set-same, getD-set-other, ext-getD}
 use Rattle.pixels.specs.declared.Canvas.{Canvas}
-use Rattle.pixels.specs.Bytes.{load, store, cells, size, loadAt, On, Sized}
+use Rattle.pixels.specs.Bytes.{pitch, load, store, cells, size, loadAt, On, Sized}
 use Rattle.pixels.specs.Hits.{paint}
 use Rattle.pixels.specs.Rows.{mark, laid, wordsOf}
 use Rattle.pixels.proofs.bytes.Places.{in-place, read-is, touch-is}
@@ -51,7 +51,7 @@ words-taken v b y x n {ws} e = record {
 }
 
 -- one word more, read at its offset
-module _ (v : Canvas) (b : List ℕ) (y x k o s : ℕ) (ws ws₀ : List ℕ) (r : Sized v b) (p : On v (x + k) y) (e : o ≡ (y * v .width + (x + k)) * s) (z : size v ≡ s) where
+module _ (v : Canvas) (b : List ℕ) (y x k o s : ℕ) (ws ws₀ : List ℕ) (r : Sized v b) (p : On v (x + k) y) (e : o ≡ (y * pitch v + (x + k)) * s) (z : size v ≡ s) where
   pub word-place : o + s ≤ length b
   word-place = in-place v b (x + k) y o r p (rw z e) s z
 
@@ -69,7 +69,7 @@ pub sub-start : (x n : ℕ) → x + n - x ≡ n
 sub-start x n = omega arith
 
 -- one word laid at its offset
-module _ (v : Canvas) (b : List ℕ) (y x k o s : ℕ) (ws : List ℕ) (r : Sized v b) (p : On v k y) (e : o ≡ (y * v .width + k) * s) (z : size v ≡ s) where
+module _ (v : Canvas) (b : List ℕ) (y x k o s : ℕ) (ws : List ℕ) (r : Sized v b) (p : On v k y) (e : o ≡ (y * pitch v + k) * s) (z : size v ≡ s) where
   pub lay-place : o + s ≤ length b
   lay-place = in-place v b k y o r p (rw z e) s z
 

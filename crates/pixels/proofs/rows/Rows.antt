@@ -7,7 +7,7 @@ use native.Mathlib.Nat.{suc-mul, zero-mul}
 use native.Mathlib.Numerals.{add-one}
 use lib.ListN.{length, length-append}
 use Rattle.pixels.specs.declared.Canvas.{Canvas}
-use Rattle.pixels.specs.Bytes.{size, On, Sized}
+use Rattle.pixels.specs.Bytes.{pitch, size, On, Sized}
 use Rattle.pixels.specs.Hits.{Hit, paint}
 use Rattle.pixels.specs.Rows.{run, mark, marks, field, flat, Touched}
 use Rattle.pixels.proofs.bytes.Pixels.{sized-length}
@@ -49,7 +49,7 @@ module _ (v : Canvas) (g : ℕ → List Hit) (x x1 : ℕ) {hs₀ : List Hit} {b 
 
 -- ---- one pixel of a row, of s bytes
 
-module _ (v : Canvas) (b : List ℕ) (x y o s : ℕ) (r : Sized v b) (p : On v x y) (e : o ≡ (y * v .width + x) * s) (z : size v ≡ s) where
+module _ (v : Canvas) (b : List ℕ) (x y o s : ℕ) (r : Sized v b) (p : On v x y) (e : o ≡ (y * pitch v + x) * s) (z : size v ≡ s) where
   pub row-place : o + s ≤ length b
   row-place = in-place v b x y o r p (rw z e) s z
 

@@ -23,6 +23,9 @@ enum-told-5 c = search needs
 enum-told-6 : tie.Need-enum-told-6
 enum-told-6 c = search needs
 
+enum-told-7 : tie.Need-enum-told-7
+enum-told-7 c = search needs
+
 returns : tie.Need-returns
 unfolding number
 returns c = rw (c .enum-told .given .1) refl
@@ -47,5 +50,9 @@ returns-6 : tie.Need-returns-6
 unfolding number
 returns-6 c = rw (c .enum-told6 .given .1) refl
 
+returns-7 : tie.Need-returns-7
+unfolding number
+returns-7 c = rw (c .enum-told7 .given .1) refl
+
 pub number-spec : {M : Type 1} → statement M
-number-spec = tie.close (tie.spec enum-told enum-told-2 enum-told-3 enum-told-4 enum-told-5 enum-told-6 returns returns-2 returns-3 returns-4 returns-5 returns-6)
+number-spec = tie.close (tie.spec enum-told enum-told-2 enum-told-3 enum-told-4 enum-told-5 enum-told-6 enum-told-7 returns returns-2 returns-3 returns-4 returns-5 returns-6 returns-7)

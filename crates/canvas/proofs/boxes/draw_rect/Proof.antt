@@ -5,12 +5,15 @@ use Rattle.canvas.specs.Boxes.{outline}
 use Rattle.canvas.specs.Call.{dots}
 use Rattle.canvas.proofs.span.Lifts.{lift-lt, lowers}
 use Rattle.canvas.proofs.plot.Draws.{ready-few}
-use Rattle.canvas.proofs.plot.Answers.{start-refuses, start-sized, start-keeps, start-draws}
+use Rattle.canvas.proofs.plot.Answers.{alone, start-refuses, start-sized, start-keeps, start-draws}
 use Rattle.canvas.proofs.boxes.Boxes.{inks-few}
 use Rattle.canvas.proofs.boxes.Outline.{outline-le}
 use borrow.Author.Needs.{needs}
 use Rattle.canvas.proofs.boxes.draw_rect.Statement.{statement}
 use Rattle.canvas.proofs.boxes.draw_rect.Tie as tie
+
+judge-requires : tie.Need-judge-requires
+judge-requires c κs = search needs
 
 begin-requires : tie.Need-begin-requires
 begin-requires c κs = search needs
@@ -29,19 +32,31 @@ lift-requires-2 c κs = search needs
 
 outline-in-requires : tie.Need-outline-in-requires
 outline-in-requires c κs =
-    let s = start-sized (c .before .before .before .before .before .before .before .before .args .canvas) (c .before .before .before .before .before .before .before .before .args .bytes .now) Sound (c .before .before .before .before .before .before .before .before .args .color) _ _ refl (c .before .before .before .before .before .before .begin .ensures) _ (c .before .before .before .before .ink .given .1) in (
-      ready-few s refl (inks-few _ _ (outline-le (c .before .before .before .before .before .before .before .before .args .canvas) _ _ _ _ (s .wide) (s .high))),
+    let o = c .before .before .before .before .before .before .before .before .before in
+    let judge = c .before .before .before .before .before .before .before .judge in
+    let begin = c .before .before .before .before .before .before .begin in
+    let ink = c .before .before .before .before .ink in
+    let f = o .fits in
+    let g = o .good .1 .1 .1 .1 .1 .1 .0 .1 in
+    let s = start-sized (o .args .canvas) (o .args .bytes .now) Sound (o .args .color) _ _ (alone (judge .ensures)) (begin .ensures) _ (ink .given .1) in (
+      ready-few s refl (inks-few _ _ (outline-le (o .args .canvas) _ _ _ _ (s .wide) (s .high))),
       (
-        lift-lt (c .before .before .before .before .before .before .before .before .args .x) _ (c .before .before .before .before .before .before .before .before .fits .x) (c .before .before .lift .ensures),
+        lift-lt (o .args .x) _ (f .x) (c .before .before .lift .ensures),
         (
-          lift-lt (c .before .before .before .before .before .before .before .before .args .y) _ (c .before .before .before .before .before .before .before .before .fits .y) (c .before .lift2 .ensures),
-          start-keeps (c .before .before .before .before .before .before .before .before .args .canvas) (c .before .before .before .before .before .before .before .before .args .bytes .now) Sound (c .before .before .before .before .before .before .before .before .args .color) _ _ refl (c .before .before .before .before .before .before .begin .ensures) _ (c .before .before .before .before .ink .given .1) (record { a = c .before .before .before .before .before .before .before .before .good .1 .1 .1 .1 .1 .1 .0 .1 .1 .0 .1; r = c .before .before .before .before .before .before .before .before .good .1 .1 .1 .1 .1 .1 .0 .1 .1 .1 .0 .1; g = c .before .before .before .before .before .before .before .before .good .1 .1 .1 .1 .1 .1 .0 .1 .1 .1 .1 .0 .1; b = c .before .before .before .before .before .before .before .before .good .1 .1 .1 .1 .1 .1 .0 .1 .1 .1 .1 .1 .0 .1 }),
+          lift-lt (o .args .y) _ (f .y) (c .before .lift2 .ensures),
+          start-keeps (o .args .canvas) (o .args .bytes .now) Sound (o .args .color) _ _ (alone (judge .ensures)) (begin .ensures) _ (ink .given .1)
+              (record { a = g .1 .0 .1; r = g .1 .1 .0 .1; g = g .1 .1 .1 .0 .1; b = g .1 .1 .1 .1 .0 .1 }),
         ),
       ),
     )
 
 returns : tie.Need-returns
-returns c = start-refuses (c .before .before .before .before .before .args .canvas) (c .before .before .before .before .before .args .bytes .now) Sound (c .before .before .before .before .before .args .color) _ _ refl (c .before .before .before .begin .ensures) _ _ _ (c .before .r .given .1)
+returns c =
+    let o = c .before .before .before .before .before .before in
+    let judge = c .before .before .before .before .judge in
+    let begin = c .before .before .before .begin in
+    let a = o .args in
+    start-refuses (a .canvas) (a .bytes .now) Sound (a .color) _ _ (alone (judge .ensures)) (begin .ensures) _ _ _ (c .before .r .given .1)
 
 same-length : tie.Need-same-length
 same-length c = search needs
@@ -49,15 +64,26 @@ same-length c = search needs
 returns-2 : tie.Need-returns-2
 unfolding dots
 returns-2 c =
-    start-draws (c .before .before .before .before .before .before .before .before .before .before .before .args .canvas) (c .before .before .before .before .before .before .before .before .before .before .before .args .bytes .now) Sound (c .before .before .before .before .before .before .before .before .before .before .before .args .color) _ _ refl (c .before .before .before .before .before .before .before .before .before .begin .ensures) _ (c .before .before .before .before .before .before .before .ink .given .1) (c .before .before .before .before .before .before .before .before .before .before .before .args .clip) (outline (c .before .before .before .before .before .before .before .before .before .before .before .args .canvas) (c .before .before .before .before .before .before .before .before .before .before .before .args .x) (c .before .before .before .before .before .before .before .before .before .before .before .args .y) (c .before .before .before .before .before .before .before .before .before .before .before .args .w) (c .before .before .before .before .before .before .before .before .before .before .before .args .h)) _ _
-    (record { byte = λ i. c .before .before .before .before .before .before .before .before .before .before .slice-known .given i .fits })
-    (record { a = c .before .before .before .before .before .before .before .before .before .before .before .good .1 .1 .1 .1 .1 .1 .0 .1 .1 .0 .1; r = c .before .before .before .before .before .before .before .before .before .before .before .good .1 .1 .1 .1 .1 .1 .0 .1 .1 .1 .0 .1; g = c .before .before .before .before .before .before .before .before .before .before .before .good .1 .1 .1 .1 .1 .1 .0 .1 .1 .1 .1 .0 .1; b = c .before .before .before .before .before .before .before .before .before .before .before .good .1 .1 .1 .1 .1 .1 .0 .1 .1 .1 .1 .1 .0 .1 })
-    (rw (lowers (c .before .before .before .before .before .before .before .before .before .before .before .args .x) _ (c .before .before .before .before .before .before .before .before .before .before .before .fits .x) (c .before .before .before .before .before .lift .ensures), lowers (c .before .before .before .before .before .before .before .before .before .before .before .args .y) _ (c .before .before .before .before .before .before .before .before .before .before .before .fits .y) (c .before .before .before .before .lift2 .ensures)) at (c .before .before .outline-in .ensures))
+    let o = c .before .before .before .before .before .before .before .before .before .before .before .before in
+    let judge = c .before .before .before .before .before .before .before .before .before .before .judge in
+    let begin = c .before .before .before .before .before .before .before .before .before .begin in
+    let ink = c .before .before .before .before .before .before .before .ink in
+    let slice-known = c .before .before .before .before .before .before .before .before .before .before .before .slice-known in
+    let lift = c .before .before .before .before .before .lift in
+    let lift2 = c .before .before .before .before .lift2 in
+    let f = o .fits in
+    let g = o .good .1 .1 .1 .1 .1 .1 .0 .1 in
+    start-draws (o .args .canvas) (o .args .bytes .now) Sound (o .args .color) _ _ (alone (judge .ensures)) (begin .ensures) _ (ink .given .1) (o .args .clip)
+    (outline (o .args .canvas) (o .args .x) (o .args .y) (o .args .w) (o .args .h)) _ _
+    (record { byte = λ i. slice-known .given i .fits })
+    (record { a = g .1 .0 .1; r = g .1 .1 .0 .1; g = g .1 .1 .1 .0 .1; b = g .1 .1 .1 .1 .0 .1 })
+    (rw (lowers (o .args .x) _ (f .x) (lift .ensures), lowers (o .args .y) _ (f .y) (lift2 .ensures)) at (c .before .before .outline-in .ensures))
 
 pub draw-rect-spec : {M : Type 1} → statement M
 draw-rect-spec =
     tie.close
     (tie.spec
+    judge-requires
     begin-requires
     enum-known-r
     enum-known-ink

@@ -5,11 +5,14 @@ use Rattle.canvas.specs.Boxes.{fill}
 use Rattle.canvas.specs.Call.{dots}
 use Rattle.canvas.proofs.span.Lifts.{lift-below, lowers}
 use Rattle.canvas.proofs.plot.Draws.{ready-few}
-use Rattle.canvas.proofs.plot.Answers.{start-refuses, start-sized, start-draws}
+use Rattle.canvas.proofs.plot.Answers.{alone, start-refuses, start-sized, start-draws}
 use Rattle.canvas.proofs.boxes.Boxes.{fill-le, inks-few}
 use borrow.Author.Needs.{needs}
 use Rattle.canvas.proofs.boxes.fill_rect.Statement.{statement}
 use Rattle.canvas.proofs.boxes.fill_rect.Tie as tie
+
+judge-requires : tie.Need-judge-requires
+judge-requires c κs = search needs
 
 begin-requires : tie.Need-begin-requires
 begin-requires c κs = search needs
@@ -28,11 +31,24 @@ lift-requires-2 c κs = search needs
 
 fill-in-requires : tie.Need-fill-in-requires
 fill-in-requires c κs =
-    let s = start-sized (c .before .before .before .before .before .before .before .before .args .canvas) (c .before .before .before .before .before .before .before .before .args .bytes .now) Sound (c .before .before .before .before .before .before .before .before .args .color) _ _ refl (c .before .before .before .before .before .before .begin .ensures) _ (c .before .before .before .before .ink .given .1) in
-    (ready-few s refl (inks-few _ _ (fill-le (c .before .before .before .before .before .before .before .before .args .canvas) _ _ _ _ (s .wide) (s .high))), (lift-below (c .before .before .before .before .before .before .before .before .args .x) _ (c .before .before .before .before .before .before .before .before .fits .x) (c .before .before .lift .ensures), lift-below (c .before .before .before .before .before .before .before .before .args .y) _ (c .before .before .before .before .before .before .before .before .fits .y) (c .before .lift2 .ensures)))
+    let o = c .before .before .before .before .before .before .before .before .before in
+    let judge = c .before .before .before .before .before .before .before .judge in
+    let begin = c .before .before .before .before .before .before .begin in
+    let ink = c .before .before .before .before .ink in
+    let a = o .args in
+    let f = o .fits in
+    let s = start-sized (a .canvas) (a .bytes .now) Sound (a .color) _ _ (alone (judge .ensures)) (begin .ensures) _ (ink .given .1) in
+    let lift = c .before .before .lift in
+    let lift2 = c .before .lift2 in
+    (ready-few s refl (inks-few _ _ (fill-le (a .canvas) _ _ _ _ (s .wide) (s .high))), (lift-below (a .x) _ (f .x) (lift .ensures), lift-below (a .y) _ (f .y) (lift2 .ensures)))
 
 returns : tie.Need-returns
-returns c = start-refuses (c .before .before .before .before .before .args .canvas) (c .before .before .before .before .before .args .bytes .now) Sound (c .before .before .before .before .before .args .color) _ _ refl (c .before .before .before .begin .ensures) _ _ _ (c .before .r .given .1)
+returns c =
+    let o = c .before .before .before .before .before .before in
+    let judge = c .before .before .before .before .judge in
+    let begin = c .before .before .before .begin in
+    let a = o .args in
+    start-refuses (a .canvas) (a .bytes .now) Sound (a .color) _ _ (alone (judge .ensures)) (begin .ensures) _ _ _ (c .before .r .given .1)
 
 same-length : tie.Need-same-length
 same-length c = search needs
@@ -40,15 +56,26 @@ same-length c = search needs
 returns-2 : tie.Need-returns-2
 unfolding dots
 returns-2 c =
-    start-draws (c .before .before .before .before .before .before .before .before .before .before .before .args .canvas) (c .before .before .before .before .before .before .before .before .before .before .before .args .bytes .now) Sound (c .before .before .before .before .before .before .before .before .before .before .before .args .color) _ _ refl (c .before .before .before .before .before .before .before .before .before .begin .ensures) _ (c .before .before .before .before .before .before .before .ink .given .1) (c .before .before .before .before .before .before .before .before .before .before .before .args .clip) (fill (c .before .before .before .before .before .before .before .before .before .before .before .args .canvas) (c .before .before .before .before .before .before .before .before .before .before .before .args .x) (c .before .before .before .before .before .before .before .before .before .before .before .args .y) (c .before .before .before .before .before .before .before .before .before .before .before .args .w) (c .before .before .before .before .before .before .before .before .before .before .before .args .h)) _ _
-    (record { byte = λ i. c .before .before .before .before .before .before .before .before .before .before .slice-known .given i .fits })
-    (record { a = c .before .before .before .before .before .before .before .before .before .before .before .good .1 .1 .1 .1 .1 .1 .0 .1 .1 .0 .1; r = c .before .before .before .before .before .before .before .before .before .before .before .good .1 .1 .1 .1 .1 .1 .0 .1 .1 .1 .0 .1; g = c .before .before .before .before .before .before .before .before .before .before .before .good .1 .1 .1 .1 .1 .1 .0 .1 .1 .1 .1 .0 .1; b = c .before .before .before .before .before .before .before .before .before .before .before .good .1 .1 .1 .1 .1 .1 .0 .1 .1 .1 .1 .1 .0 .1 })
-    (rw (lowers (c .before .before .before .before .before .before .before .before .before .before .before .args .x) _ (c .before .before .before .before .before .before .before .before .before .before .before .fits .x) (c .before .before .before .before .before .lift .ensures), lowers (c .before .before .before .before .before .before .before .before .before .before .before .args .y) _ (c .before .before .before .before .before .before .before .before .before .before .before .fits .y) (c .before .before .before .before .lift2 .ensures)) at (c .before .before .fill-in .ensures))
+    let o = c .before .before .before .before .before .before .before .before .before .before .before .before in
+    let judge = c .before .before .before .before .before .before .before .before .before .before .judge in
+    let begin = c .before .before .before .before .before .before .before .before .before .begin in
+    let ink = c .before .before .before .before .before .before .before .ink in
+    let slice-known = c .before .before .before .before .before .before .before .before .before .before .before .slice-known in
+    let lift = c .before .before .before .before .before .lift in
+    let lift2 = c .before .before .before .before .lift2 in
+    let f = o .fits in
+    let g = o .good .1 .1 .1 .1 .1 .1 .0 .1 in
+    start-draws (o .args .canvas) (o .args .bytes .now) Sound (o .args .color) _ _ (alone (judge .ensures)) (begin .ensures) _ (ink .given .1) (o .args .clip)
+    (fill (o .args .canvas) (o .args .x) (o .args .y) (o .args .w) (o .args .h)) _ _
+    (record { byte = λ i. slice-known .given i .fits })
+    (record { a = g .1 .0 .1; r = g .1 .1 .0 .1; g = g .1 .1 .1 .0 .1; b = g .1 .1 .1 .1 .0 .1 })
+    (rw (lowers (o .args .x) _ (f .x) (lift .ensures), lowers (o .args .y) _ (f .y) (lift2 .ensures)) at (c .before .before .fill-in .ensures))
 
 pub fill-rect-spec : {M : Type 1} → statement M
 fill-rect-spec =
     tie.close
     (tie.spec
+    judge-requires
     begin-requires
     enum-known-r
     enum-known-ink

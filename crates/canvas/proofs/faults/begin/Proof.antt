@@ -1,4 +1,4 @@
--- Refused for the first fault, or with the colour's ink.
+-- Refused for the fault, or with the colour's ink.
 use mathlib.Core.Path.{refl, ap}
 use Rattle.canvas.specs.declared.faults.Start.the-variants.{With}
 use Rattle.canvas.specs.Start.{started}
@@ -6,14 +6,8 @@ use borrow.Author.Needs.{needs}
 use Rattle.canvas.proofs.faults.begin.Statement.{statement}
 use Rattle.canvas.proofs.faults.begin.Tie as tie
 
-judge-requires : tie.Need-judge-requires
-judge-requires c κs = search needs
-
-or-else-requires : tie.Need-or-else-requires
-or-else-requires c κs = search needs
-
-enum-known-r : tie.Need-enum-known-r
-enum-known-r c = search needs
+enum-known-fault : tie.Need-enum-known-fault
+enum-known-fault c = search needs
 
 enum-told : tie.Need-enum-told
 enum-told c = search needs
@@ -23,11 +17,11 @@ plot-ink-requires c κs = search needs
 
 returns : tie.Need-returns
 unfolding started
-returns c = rw (← c .before .before .before .before .judge .ensures, ← c .before .before .before .or-else .ensures, c .before .r .given .1) refl
+returns c = rw (c .before .fault .given .1) refl
 
 returns-2 : tie.Need-returns-2
 unfolding started
-returns-2 c = rw (← c .before .before .before .before .judge .ensures, ← c .before .before .before .or-else .ensures, c .before .enum-told .given .1) (ap With (c .plot-ink .ensures))
+returns-2 c = rw (c .before .enum-told .given .1) (ap With (c .plot-ink .ensures))
 
 pub begin-spec : {M : Type 1} → statement M
-begin-spec = tie.close (tie.spec judge-requires or-else-requires enum-known-r enum-told plot-ink-requires returns returns-2)
+begin-spec = tie.close (tie.spec enum-known-fault enum-told plot-ink-requires returns returns-2)

@@ -1,23 +1,23 @@
--- The span's two tests, among lifted numbers.
-use Rattle.canvas.proofs.span.Spans.{span-no, span-yes}
+-- One test in place of the definition's two, among lifted numbers.
+use Rattle.canvas.proofs.span.Spans.{span-around}
 use borrow.Author.Needs.{needs}
 use Rattle.canvas.proofs.span.in_span.Statement.{statement}
 use Rattle.canvas.proofs.span.in_span.Tie as tie
 
+add-wrapping-sub-u64 : tie.Need-add-wrapping-sub-u64
+add-wrapping-sub-u64 c = search needs
+
 lift-requires : tie.Need-lift-requires
 lift-requires c κs = search needs
 
-add-q : tie.Need-add-q
-add-q c = search needs
+wrapping-sub-u64-requires : tie.Need-wrapping-sub-u64-requires
+wrapping-sub-u64-requires c κs = search needs
 
 returns : tie.Need-returns
-returns c = span-no _ _ _ _ (c .before .before .fits .a) (c .before .lift .ensures) (c .if1 .taken)
-
-add-result : tie.Need-add-result
-add-result c = search needs
-
-returns-2 : tie.Need-returns-2
-returns-2 c = span-yes _ _ _ _ (c .before .before .fits .a) (c .before .lift .ensures) (c .if1 .left)
+returns c =
+    let o = c .before .before in
+    let s = c .wrapping-sub-u64 in
+    span-around (o .args .a) (o .args .n) (o .args .p) _ (o .fits .a) (c .before .lift .ensures) (s .result) (o .fits .n .fits) (o .pre) (s .ok) (s .ensures)
 
 pub in-span-spec : {M : Type 1} → statement M
-in-span-spec = tie.close (tie.spec lift-requires add-q returns add-result returns-2)
+in-span-spec = tie.close (tie.spec add-wrapping-sub-u64 lift-requires wrapping-sub-u64-requires returns)

@@ -14,7 +14,7 @@ add-result c = search needs
 returns : tie.Need-returns
 returns c =
     let a = c .before .before .args in
-    held-none (a .room) (c .before .bytes-per-pixel .result) (a .format) (a .width) (a .height) (c .before .bytes-per-pixel .ensures) (c .if1 .taken)
+    held-none (a .room) (c .before .bytes-per-pixel .result) (a .format) (a .row) (a .height) (c .before .bytes-per-pixel .ensures) (c .if1 .taken)
 
 mul-area : tie.Need-mul-area
 mul-area c = record { fits = area-fits _ _ (search needs) (search needs) }
@@ -28,7 +28,7 @@ add-result-2 c = search needs
 returns-2 : tie.Need-returns-2
 returns-2 c =
     let a = c .before .before .before .args in
-    held-over (a .room) (c .before .before .bytes-per-pixel .result) (a .format) (a .width) (a .height) (c .before .before .bytes-per-pixel .ensures) (c .before .if1 .left) (c .if2 .taken)
+    held-over (a .room) (c .before .before .bytes-per-pixel .result) (a .format) (a .row) (a .height) (c .before .before .bytes-per-pixel .ensures) (c .before .if1 .left) (c .if2 .taken)
 
 mul-result : tie.Need-mul-result
 mul-result c = omega (arith, product-fits _ (c .before .before .before .args .room) (c .before .before .bytes-per-pixel .result) (c .before .if1 .left) (c .if2 .left))
@@ -36,7 +36,7 @@ mul-result c = omega (arith, product-fits _ (c .before .before .before .args .ro
 returns-3 : tie.Need-returns-3
 returns-3 c =
     let a = c .before .before .before .args in
-    held-is (a .room) (c .before .before .bytes-per-pixel .result) (a .format) (a .width) (a .height) (c .before .before .bytes-per-pixel .ensures) (c .before .if1 .left)
+    held-is (a .room) (c .before .before .bytes-per-pixel .result) (a .format) (a .row) (a .height) (c .before .before .bytes-per-pixel .ensures) (c .before .if1 .left)
 
 pub held-spec : {M : Type 1} → statement M
 held-spec =

@@ -16,17 +16,27 @@ lent-requires-2 c κs = (omega arith, omega (arith, c .before .before .before .b
 returns : tie.Need-returns
 returns c =
     let a = c .before .before .before .before .before .before .before .before .args in
-    no-room (a .name) (readArgs (a .line .now) (a .h) .value) (readArgs (a .line .now) (a .c) .value) (a .bytes .now) (a .image .now) (c .before .before .before .lent .result) (c .before .lent2 .result) (c .before .before .before .lent .ensures .0 (a .line .now)) (c .before .lent2 .ensures .0 (a .line .now)) (a .bad) (c .if1 .taken)
+    let h = readArgs (a .line .now) (a .h) .value in
+    let r = readArgs (a .line .now) (a .c) .value in
+    let n = c .before .before .before .lent in
+    let m = c .before .lent2 in
+    no-room (a .name) h r (a .bytes .now) (a .image .now) (n .result) (m .result) (n .ensures .0 (a .line .now)) (m .ensures .0 (a .line .now)) (a .bad) (c .if1 .taken)
 
 lay-requires : tie.Need-lay-requires
 lay-requires c κs =
-    let a = c .before .before .before .before .before .before .before .before .before .args in
-    (c .before .before .before .before .before .before .before .before .before .pre .0, (c .before .before .before .before .lent .ensures .1, room (a .bad) (length (a .bytes .now)) (length (a .image .now)) (c .before .before .before .before .lent .result) (c .before .before .lent2 .result) (c .before .if1 .left) .0))
+    let s = c .before .before .before .before .before .before .before .before .before in
+    let a = s .args in
+    let n = c .before .before .before .before .lent in
+    let m = c .before .before .lent2 in
+    (s .pre .0, (n .ensures .1, room (a .bad) (length (a .bytes .now)) (length (a .image .now)) (n .result) (m .result) (c .before .if1 .left) .0))
 
 lay-requires-2 : tie.Need-lay-requires-2
 lay-requires-2 c κs =
-    let a = c .before .before .before .before .before .before .before .before .before .before .before .before .before .args in
-    (c .before .before .before .before .before .before .before .before .before .before .before .before .before .pre .1, (c .before .before .before .before .before .before .lent2 .ensures .1, room (a .bad) (length (a .bytes .now)) (length (a .image .now)) (c .before .before .before .before .before .before .before .before .lent .result) (c .before .before .before .before .before .before .lent2 .result) (c .before .before .before .before .before .if1 .left) .1))
+    let s = c .before .before .before .before .before .before .before .before .before .before .before .before .before in
+    let a = s .args in
+    let n = c .before .before .before .before .before .before .before .before .lent in
+    let m = c .before .before .before .before .before .before .lent2 in
+    (s .pre .1, (m .ensures .1, room (a .bad) (length (a .bytes .now)) (length (a .image .now)) (n .result) (m .result) (c .before .before .before .before .before .if1 .left) .1))
 
 same-length : tie.Need-same-length
 same-length c = search needs
@@ -37,7 +47,12 @@ same-length-2 c = search needs
 returns-2 : tie.Need-returns-2
 returns-2 c =
     let a = c .before .before .before .before .before .before .before .before .before .before .before .before .before .before .before .before .args in
-    laid-both (a .name) (readArgs (a .line .now) (a .h) .value) (readArgs (a .line .now) (a .c) .value) (a .bytes .now) (a .image .now) (c .before .before .before .before .before .before .before .before .before .before .before .lent .result) (c .before .before .before .before .before .before .before .before .before .lent2 .result) (c .before .before .before .before .before .before .before .before .before .before .before .lent .ensures .0 (a .line .now)) (c .before .before .before .before .before .before .before .before .before .lent2 .ensures .0 (a .line .now)) (a .bad) (c .before .before .before .before .before .before .before .before .if1 .left) (c .before .before .before .before .before .before .lay .ensures) (c .before .before .lay2 .ensures)
+    let h = readArgs (a .line .now) (a .h) .value in
+    let r = readArgs (a .line .now) (a .c) .value in
+    let n = c .before .before .before .before .before .before .before .before .before .before .before .lent in
+    let m = c .before .before .before .before .before .before .before .before .before .lent2 in
+    let both = laid-both (a .name) h r (a .bytes .now) (a .image .now) (n .result) (m .result) (n .ensures .0 (a .line .now)) (m .ensures .0 (a .line .now)) in
+    both (a .bad) (c .before .before .before .before .before .before .before .before .if1 .left) (c .before .before .before .before .before .before .lay .ensures) (c .before .before .lay2 .ensures)
 
 pub lay-both-spec : {M : Type 1} → statement M
 lay-both-spec =

@@ -1,7 +1,9 @@
 -- `lent` counts by the seed's kind.
 use mathlib.Core.Path.{refl, sym, _∙_, ap}
-use Prim.Native.Nat.{_+_}
+use mathlib.Core.List.{List}
+use Prim.Native.Nat.{ℕ, _+_}
 use lib.ListN.{getD}
+use Rattle.cases.specs.Line.{Value}
 use Rattle.cases.specs.Case.{lent, fitting, capped}
 use Rattle.cases.specs.Place.{sown, Fills}
 use Rattle.cases.specs.declared.seed.Seed.{Seed}
@@ -10,20 +12,20 @@ use borrow.Author.Needs.{needs}
 use Rattle.cases.proofs.case.lent.Statement.{statement}
 use Rattle.cases.proofs.case.lent.Tie as tie
 
+abbrev by : ℕ → List ℕ → ℕ → ℕ → List ℕ → Seed → Value ℕ
+by room n i j line s = capped room (lent (getD n i 0) (getD n j 0) (getD n (i + 2) 0) (sown line s))
+
 mul-format : tie.Need-mul-format
 mul-format c = search needs
 
 array-read-format : tie.Need-array-read-format
 array-read-format c = search needs
 
-add-width : tie.Need-add-width
-add-width c = search needs
+mul-row : tie.Need-mul-row
+mul-row c = search needs
 
-mul-width : tie.Need-mul-width
-mul-width c = search needs
-
-array-read-width : tie.Need-array-read-width
-array-read-width c = search needs
+array-read-row : tie.Need-array-read-row
+array-read-row c = search needs
 
 add-height : tie.Need-add-height
 add-height c = search needs
@@ -53,20 +55,22 @@ returns : tie.Need-returns
 unfolding lent sown Fills
 returns c =
     let a = c .before .before .before .args in
-    (λ line. c .held .ensures ∙ sym (ap (λ (s : Seed). capped (a .room) (lent (getD (a .t1) (a .i) 0) (getD (a .t1) (a .i + 1) 0) (getD (a .t1) (a .i + 2) 0) (sown line s))) (c .before .enum-told .given .1)), rw (c .before .enum-told .given .1) tt)
+    let e = c .before .enum-told .given .1 in
+    (λ line. c .held .ensures ∙ sym (ap (by (a .room) (a .t1) (a .i) (a .j) line) e), rw e tt)
 
 returns-2 : tie.Need-returns-2
 unfolding lent sown Fills
 returns-2 c =
     let a = c .before .before .before .args in
-    (λ line. c .held2 .ensures ∙ sym (ap (λ (s : Seed). capped (a .room) (lent (getD (a .t1) (a .i) 0) (getD (a .t1) (a .i + 1) 0) (getD (a .t1) (a .i + 2) 0) (sown line s))) (c .before .enum-told2 .given .1)), rw (c .before .enum-told2 .given .1) tt)
+    let e = c .before .enum-told2 .given .1 in
+    (λ line. c .held2 .ensures ∙ sym (ap (by (a .room) (a .t1) (a .i) (a .j) line) e), rw e tt)
 
 returns-3 : tie.Need-returns-3
 unfolding lent sown capped Fills
 returns-3 c =
     let a = c .before .before .before .args in
-    let seed = c .before .seed in
-    (λ line. ap (fitting (a .room)) (sym (length-pairs line (seed .given .0 .0) (seed .given .0 .1 .0))) ∙ sym (ap (λ (s : Seed). capped (a .room) (lent (getD (a .t1) (a .i) 0) (getD (a .t1) (a .i + 1) 0) (getD (a .t1) (a .i + 2) 0) (sown line s))) (seed .given .1)), rw (seed .given .1) refl)
+    let g = c .before .seed .given in
+    (λ line. ap (fitting (a .room)) (sym (length-pairs line (g .0 .0) (g .0 .1 .0))) ∙ sym (ap (by (a .room) (a .t1) (a .i) (a .j) line) (g .1)), rw (g .1) refl)
 
 pub lent-spec : {M : Type 1} → statement M
 lent-spec =
@@ -74,9 +78,8 @@ lent-spec =
     (tie.spec
     mul-format
     array-read-format
-    add-width
-    mul-width
-    array-read-width
+    mul-row
+    array-read-row
     add-height
     mul-height
     array-read-height

@@ -32,7 +32,13 @@ same-length-2 c = search needs
 returns : tie.Need-returns
 returns c =
     let a = c .before .before .before .before .before .before .before .before .before .before .before .before .before .before .before .args in
-    any-line (a .line .now) (a .bytes .now) (a .image .now) (c .before .before .before .before .before .before .before .before .before .before .before .read-args .result) (c .before .before .before .before .before .before .before .before .before .before .read-name .result) (c .before .before .before .before .before .before .before .before .before .kinds .result) (c .before .before .before .before .before .before .before .before .before .before .before .read-args .ensures .0) (c .before .before .before .before .before .before .before .before .before .before .read-name .ensures) (c .before .before .before .before .before .before .before .before .before .kinds .ensures) (c .before .before .before .before .before .before .before .before .read-args2 .result) (c .before .before .before .before .before .before .before .before .read-args2 .ensures .0) _ refl (c .before .before .before .before .lay-both .ensures)
+    let h = c .before .before .before .before .before .before .before .before .before .before .before .read-args in
+    let o = c .before .before .before .before .before .before .before .before .before .before .read-name in
+    let k = c .before .before .before .before .before .before .before .before .before .kinds in
+    let r = c .before .before .before .before .before .before .before .before .read-args2 in
+    let l = c .before .before .before .before .lay-both in
+    any-line (a .line .now) (a .bytes .now) (a .image .now) (h .result) (o .result) (k .result) (h .ensures .0) (o .ensures) (k .ensures)
+    (r .result) (r .ensures .0) _ refl (l .ensures)
 
 pub read-spec : {M : Type 1} → statement M
 read-spec =

@@ -8,16 +8,22 @@ read-seed-requires : tie.Need-read-seed-requires
 read-seed-requires c κs = search needs
 
 returns : tie.Need-returns
-returns c = (seed-taken (c .before .before .before .before .args .line .now) (c .before .before .before .before .args .i) (c .before .before .before .before .args .kind) (c .before .before .before .before .args .a) (c .before .if1 .taken) (c .read-seed .result) (c .read-seed .ensures .0), c .read-seed .ensures .1)
+returns c =
+    let a = c .before .before .before .before .args in
+    let s = c .read-seed in
+    (seed-taken (a .line .now) (a .i) (a .kind) (a .a) (c .before .if1 .taken) (s .result) (s .ensures .0), s .ensures .1)
 
 read-file-requires : tie.Need-read-file-requires
 read-file-requires c κs = search needs
 
 returns-2 : tie.Need-returns-2
-returns-2 c = (file-taken (c .before .before .before .before .before .args .line .now) (c .before .before .before .before .before .args .i) (c .before .before .before .before .before .args .kind) (c .before .before .before .before .before .args .a) (c .before .before .if1 .left) (c .before .if2 .taken) (c .read-file .result) (c .read-file .ensures .0), c .read-file .ensures .1)
+returns-2 c =
+    let a = c .before .before .before .before .before .args in
+    let s = c .read-file in
+    (file-taken (a .line .now) (a .i) (a .kind) (a .a) (c .before .before .if1 .left) (c .before .if2 .taken) (s .result) (s .ensures .0), s .ensures .1)
 
-read-kind-requires : tie.Need-read-kind-requires
-read-kind-requires c κs = search needs
+read-word-requires : tie.Need-read-word-requires
+read-word-requires c κs = search needs
 
 mul-numbers : tie.Need-mul-numbers
 mul-numbers c = search needs
@@ -26,7 +32,10 @@ array-write-numbers : tie.Need-array-write-numbers
 array-write-numbers c = search needs
 
 returns-3 : tie.Need-returns-3
-returns-3 c = (number-taken (c .before .before .before .before .before .args .line .now) (c .before .before .before .before .before .args .i) (c .before .before .before .before .before .args .kind) (c .before .before .before .before .before .args .a) (c .before .before .if1 .left) (c .before .if2 .left) (c .read-kind .result) (c .read-kind .ensures), c .before .before .before .before .before .pre .1)
+returns-3 c =
+    let a = c .before .before .before .before .before .args in
+    let n = c .read-word in
+    (number-taken (a .line .now) (a .i) (a .kind) (a .a) (c .before .before .if1 .left) (c .before .if2 .left) (n .result) (n .ensures), c .before .before .before .before .before .pre .1)
 
 pub take-spec : {M : Type 1} → statement M
 take-spec =
@@ -36,7 +45,7 @@ take-spec =
     returns
     read-file-requires
     returns-2
-    read-kind-requires
+    read-word-requires
     mul-numbers
     array-write-numbers
     returns-3)

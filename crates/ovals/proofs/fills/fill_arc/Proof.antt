@@ -7,15 +7,21 @@ use Rattle.ovals.specs.Curves.{pie}
 use Rattle.canvas.specs.Call.{dots}
 use Rattle.ovals.proofs.faults.Bounds.{arc-of, arc-known}
 use Rattle.canvas.proofs.plot.Draws.{ready-few}
-use Rattle.canvas.proofs.plot.Answers.{start-refuses, start-sized, start-own, start-draws}
+use Rattle.canvas.proofs.plot.Answers.{first, start-refuses, start-sized, start-own, start-draws}
 use Rattle.canvas.proofs.boxes.Boxes.{inks-few}
 use Rattle.ovals.proofs.fills.Sieves.{pie-le}
 use borrow.Author.Needs.{needs}
 use Rattle.ovals.proofs.fills.fill_arc.Statement.{statement}
 use Rattle.ovals.proofs.fills.fill_arc.Tie as tie
 
+judge-requires : tie.Need-judge-requires
+judge-requires c κs = search needs
+
 arc-fault-requires : tie.Need-arc-fault-requires
 arc-fault-requires c κs = search needs
+
+or-else-requires : tie.Need-or-else-requires
+or-else-requires c κs = search needs
 
 begin-requires : tie.Need-begin-requires
 begin-requires c κs = search needs
@@ -28,28 +34,36 @@ enum-known-ink c = search needs
 
 pie-in-requires : tie.Need-pie-in-requires
 pie-in-requires c κs =
-    let o = c .before .before .before .before .before .before .before in
+    let o = c .before .before .before .before .before .before .before .before .before in
+    let or-else = c .before .before .before .before .before .or-else in
+    let judge = c .before .before .before .before .before .before .before .judge in
     let a = o .args in
     let f = o .fits in
-    let arc-fault = c .before .before .before .before .before .arc-fault in
+    let arc-fault = c .before .before .before .before .before .before .arc-fault in
     let begin = c .before .before .before .before .begin in
     let ink = c .before .before .ink in
     let s = start-sized (a .canvas) (a .bytes .now) (arcFault (a .x) (a .y) (a .w) (a .h) (a .start) (a .arc)) (a .color) _ _
-    (arc-of (a .x) (a .y) (a .w) (a .h) (a .start) (a .arc) _ (f .x) (f .y) (f .start) (f .arc) (arc-fault .ensures)) (begin .ensures) _ (ink .given .1) in
+    (first (or-else .ensures) (judge .ensures) (arc-of (a .x) (a .y) (a .w) (a .h) (a .start) (a .arc) _ (f .x) (f .y) (f .start) (f .arc) (arc-fault .ensures))) (begin .ensures)
+    _ (ink .given .1) in
     rw (toZ-ofZ w32 (a .x) (f .x), toZ-ofZ w32 (a .y) (f .y), toZ-ofZ w32 (a .start) (f .start), toZ-ofZ w32 (a .arc) (f .arc)) (
       ready-few s refl (inks-few _ _ (pie-le (a .canvas) (a .x) (a .y) (a .w) (a .h) (a .start) (a .arc) (s .wide) (s .high))),
       arc-known (a .x) (a .y) (a .w) (a .h) (a .start) (a .arc) (start-own (a .canvas) (a .bytes .now) (arcFault (a .x) (a .y) (a .w) (a .h) (a .start) (a .arc)) (a .color) _ _
-          (arc-of (a .x) (a .y) (a .w) (a .h) (a .start) (a .arc) _ (f .x) (f .y) (f .start) (f .arc) (arc-fault .ensures)) (begin .ensures) _ (ink .given .1)),
+          (first (or-else .ensures) (judge .ensures) (arc-of (a .x) (a .y) (a .w) (a .h) (a .start) (a .arc) _ (f .x) (f .y) (f .start) (f .arc) (arc-fault .ensures)))
+          (begin .ensures) _ (ink .given .1)),
     )
 
 returns : tie.Need-returns
 returns c =
-    let o = c .before .before .before .before .before .before in
+    let o = c .before .before .before .before .before .before .before .before in
+    let or-else = c .before .before .before .before .or-else in
+    let judge = c .before .before .before .before .before .before .judge in
+    let arc-fault = c .before .before .before .before .before .arc-fault in
+    let begin = c .before .before .before .begin in
     let a = o .args in
     let f = o .fits in
     start-refuses (a .canvas) (a .bytes .now) (arcFault (a .x) (a .y) (a .w) (a .h) (a .start) (a .arc)) (a .color) _ _
-    (arc-of (a .x) (a .y) (a .w) (a .h) (a .start) (a .arc) _ (f .x) (f .y) (f .start) (f .arc) (c .before .before .before .before .arc-fault .ensures))
-    (c .before .before .before .begin .ensures) _ _ _ (c .before .r .given .1)
+    (first (or-else .ensures) (judge .ensures) (arc-of (a .x) (a .y) (a .w) (a .h) (a .start) (a .arc) _ (f .x) (f .y) (f .start) (f .arc) (arc-fault .ensures)))
+    (begin .ensures) _ _ _ (c .before .r .given .1)
 
 same-length : tie.Need-same-length
 same-length c = search needs
@@ -57,13 +71,19 @@ same-length c = search needs
 returns-2 : tie.Need-returns-2
 unfolding dots
 returns-2 c =
-    let o = c .before .before .before .before .before .before .before .before .before .before in
+    let o = c .before .before .before .before .before .before .before .before .before .before .before .before in
+    let or-else = c .before .before .before .before .before .before .before .before .or-else in
+    let judge = c .before .before .before .before .before .before .before .before .before .before .judge in
+    let arc-fault = c .before .before .before .before .before .before .before .before .before .arc-fault in
+    let begin = c .before .before .before .before .before .before .before .begin in
+    let ink = c .before .before .before .before .before .ink in
+    let slice-known = c .before .before .before .before .before .before .before .before .before .before .before .slice-known in
     let f = o .fits in
     start-draws (o .args .canvas) (o .args .bytes .now) (arcFault (o .args .x) (o .args .y) (o .args .w) (o .args .h) (o .args .start) (o .args .arc)) (o .args .color) _ _
-    (arc-of (o .args .x) (o .args .y) (o .args .w) (o .args .h) (o .args .start) (o .args .arc) _ (f .x) (f .y) (f .start) (f .arc)
-    (c .before .before .before .before .before .before .before .before .arc-fault .ensures)) (c .before .before .before .before .before .before .before .begin .ensures) _
-    (c .before .before .before .before .before .ink .given .1) (o .args .clip) (pie (o .args .canvas) (o .args .x) (o .args .y) (o .args .w) (o .args .h) (o .args .start) (o .args .arc)) _ _
-    (record { byte = λ i. c .before .before .before .before .before .before .before .before .before .slice-known .given i .fits })
+    (first (or-else .ensures) (judge .ensures) (arc-of (o .args .x) (o .args .y) (o .args .w) (o .args .h) (o .args .start) (o .args .arc) _ (f .x) (f .y) (f .start) (f .arc)
+    (arc-fault .ensures))) (begin .ensures) _
+    (ink .given .1) (o .args .clip) (pie (o .args .canvas) (o .args .x) (o .args .y) (o .args .w) (o .args .h) (o .args .start) (o .args .arc)) _ _
+    (record { byte = λ i. slice-known .given i .fits })
     (record {
       a = o .good .1 .1 .1 .1 .1 .1 .1 .1 .0 .1 .1 .0 .1;
       r = o .good .1 .1 .1 .1 .1 .1 .1 .1 .0 .1 .1 .1 .0 .1;
@@ -77,7 +97,9 @@ pub fill-arc-spec : {M : Type 1} → statement M
 fill-arc-spec =
     tie.close
     (tie.spec
+    judge-requires
     arc-fault-requires
+    or-else-requires
     begin-requires
     enum-known-r
     enum-known-ink

@@ -7,15 +7,21 @@ use Rattle.ovals.specs.Curves.{roundFill}
 use Rattle.canvas.specs.Call.{dots}
 use Rattle.ovals.proofs.faults.Bounds.{shape-of, shape-known}
 use Rattle.canvas.proofs.plot.Draws.{ready-few}
-use Rattle.canvas.proofs.plot.Answers.{start-refuses, start-sized, start-own, start-draws}
+use Rattle.canvas.proofs.plot.Answers.{first, start-refuses, start-sized, start-own, start-draws}
 use Rattle.canvas.proofs.boxes.Boxes.{inks-few}
 use Rattle.ovals.proofs.fills.Sieves.{round-le}
 use borrow.Author.Needs.{needs}
 use Rattle.ovals.proofs.fills.fill_round_rect.Statement.{statement}
 use Rattle.ovals.proofs.fills.fill_round_rect.Tie as tie
 
+judge-requires : tie.Need-judge-requires
+judge-requires c κs = search needs
+
 shape-fault-requires : tie.Need-shape-fault-requires
 shape-fault-requires c κs = search needs
+
+or-else-requires : tie.Need-or-else-requires
+or-else-requires c κs = search needs
 
 begin-requires : tie.Need-begin-requires
 begin-requires c κs = search needs
@@ -28,27 +34,35 @@ enum-known-ink c = search needs
 
 round-in-requires : tie.Need-round-in-requires
 round-in-requires c κs =
-    let o = c .before .before .before .before .before .before .before in
+    let o = c .before .before .before .before .before .before .before .before .before in
+    let or-else = c .before .before .before .before .before .or-else in
+    let judge = c .before .before .before .before .before .before .before .judge in
     let a = o .args in
     let f = o .fits in
-    let shape-fault = c .before .before .before .before .before .shape-fault in
+    let shape-fault = c .before .before .before .before .before .before .shape-fault in
     let begin = c .before .before .before .before .begin in
     let ink = c .before .before .ink in
-    let s = start-sized (a .canvas) (a .bytes .now) (shapeFault (a .x) (a .y) (a .w) (a .h)) (a .color) _ _ (shape-of (a .x) (a .y) (a .w) (a .h) _ (f .x) (f .y) (shape-fault .ensures))
+    let s = start-sized (a .canvas) (a .bytes .now) (shapeFault (a .x) (a .y) (a .w) (a .h)) (a .color) _ _
+    (first (or-else .ensures) (judge .ensures) (shape-of (a .x) (a .y) (a .w) (a .h) _ (f .x) (f .y) (shape-fault .ensures)))
     (begin .ensures) _ (ink .given .1) in
     rw (toZ-ofZ w32 (a .x) (f .x), toZ-ofZ w32 (a .y) (f .y)) (
       ready-few s refl (inks-few _ _ (round-le (a .canvas) (a .x) (a .y) (a .w) (a .h) (a .aw) (a .ah) (s .wide) (s .high))),
       shape-known (a .x) (a .y) (a .w) (a .h)
-          (start-own (a .canvas) (a .bytes .now) (shapeFault (a .x) (a .y) (a .w) (a .h)) (a .color) _ _ (shape-of (a .x) (a .y) (a .w) (a .h) _ (f .x) (f .y) (shape-fault .ensures))
+          (start-own (a .canvas) (a .bytes .now) (shapeFault (a .x) (a .y) (a .w) (a .h)) (a .color) _ _
+          (first (or-else .ensures) (judge .ensures) (shape-of (a .x) (a .y) (a .w) (a .h) _ (f .x) (f .y) (shape-fault .ensures)))
           (begin .ensures) _ (ink .given .1)),
     )
 
 returns : tie.Need-returns
 returns c =
-    let o = c .before .before .before .before .before .before in
+    let o = c .before .before .before .before .before .before .before .before in
+    let or-else = c .before .before .before .before .or-else in
+    let judge = c .before .before .before .before .before .before .judge in
+    let shape-fault = c .before .before .before .before .before .shape-fault in
+    let begin = c .before .before .before .begin in
     let a = o .args in
     start-refuses (a .canvas) (a .bytes .now) (shapeFault (a .x) (a .y) (a .w) (a .h)) (a .color) _ _
-    (shape-of (a .x) (a .y) (a .w) (a .h) _ (o .fits .x) (o .fits .y) (c .before .before .before .before .shape-fault .ensures)) (c .before .before .before .begin .ensures) _ _ _
+    (first (or-else .ensures) (judge .ensures) (shape-of (a .x) (a .y) (a .w) (a .h) _ (o .fits .x) (o .fits .y) (shape-fault .ensures))) (begin .ensures) _ _ _
     (c .before .r .given .1)
 
 same-length : tie.Need-same-length
@@ -57,13 +71,19 @@ same-length c = search needs
 returns-2 : tie.Need-returns-2
 unfolding dots
 returns-2 c =
-    let o = c .before .before .before .before .before .before .before .before .before .before in
+    let o = c .before .before .before .before .before .before .before .before .before .before .before .before in
+    let or-else = c .before .before .before .before .before .before .before .before .or-else in
+    let judge = c .before .before .before .before .before .before .before .before .before .before .judge in
+    let shape-fault = c .before .before .before .before .before .before .before .before .before .shape-fault in
+    let begin = c .before .before .before .before .before .before .before .begin in
+    let ink = c .before .before .before .before .before .ink in
+    let slice-known = c .before .before .before .before .before .before .before .before .before .before .before .slice-known in
     let f = o .fits in
     start-draws (o .args .canvas) (o .args .bytes .now) (shapeFault (o .args .x) (o .args .y) (o .args .w) (o .args .h)) (o .args .color) _ _
-    (shape-of (o .args .x) (o .args .y) (o .args .w) (o .args .h) _ (f .x) (f .y) (c .before .before .before .before .before .before .before .before .shape-fault .ensures))
-    (c .before .before .before .before .before .before .before .begin .ensures) _ (c .before .before .before .before .before .ink .given .1) (o .args .clip)
+    (first (or-else .ensures) (judge .ensures) (shape-of (o .args .x) (o .args .y) (o .args .w) (o .args .h) _ (f .x) (f .y) (shape-fault .ensures)))
+    (begin .ensures) _ (ink .given .1) (o .args .clip)
     (roundFill (o .args .canvas) (o .args .x) (o .args .y) (o .args .w) (o .args .h) (o .args .aw) (o .args .ah)) _ _
-    (record { byte = λ i. c .before .before .before .before .before .before .before .before .before .slice-known .given i .fits })
+    (record { byte = λ i. slice-known .given i .fits })
     (record {
       a = o .good .1 .1 .1 .1 .1 .1 .1 .1 .0 .1 .1 .0 .1;
       r = o .good .1 .1 .1 .1 .1 .1 .1 .1 .0 .1 .1 .1 .0 .1;
@@ -76,7 +96,9 @@ pub fill-round-rect-spec : {M : Type 1} → statement M
 fill-round-rect-spec =
     tie.close
     (tie.spec
+    judge-requires
     shape-fault-requires
+    or-else-requires
     begin-requires
     enum-known-r
     enum-known-ink

@@ -6,13 +6,19 @@ use Rattle.ovals.specs.Faults.{arcFault}
 use Rattle.ovals.specs.Strokes.{arc}
 use Rattle.canvas.specs.Call.{dots}
 use Rattle.ovals.proofs.faults.Bounds.{arc-of}
-use Rattle.canvas.proofs.plot.Answers.{start-refuses, start-sized, start-draws}
+use Rattle.canvas.proofs.plot.Answers.{first, start-refuses, start-sized, start-draws}
 use borrow.Author.Needs.{needs}
 use Rattle.ovals.proofs.strokes.draw_arc.Statement.{statement}
 use Rattle.ovals.proofs.strokes.draw_arc.Tie as tie
 
+judge-requires : tie.Need-judge-requires
+judge-requires c κs = search needs
+
 arc-fault-requires : tie.Need-arc-fault-requires
 arc-fault-requires c κs = search needs
+
+or-else-requires : tie.Need-or-else-requires
+or-else-requires c κs = search needs
 
 begin-requires : tie.Need-begin-requires
 begin-requires c κs = search needs
@@ -25,21 +31,31 @@ enum-known-ink c = search needs
 
 arc-in-requires : tie.Need-arc-in-requires
 arc-in-requires c κs =
-    let a = c .before .before .before .before .before .before .before .args in
-    let f₀ = c .before .before .before .before .before .before .before .fits in (
+    let o = c .before .before .before .before .before .before .before .before .before in
+    let or-else = c .before .before .before .before .before .or-else in
+    let judge = c .before .before .before .before .before .before .before .judge in
+    let arc-fault = c .before .before .before .before .before .before .arc-fault in
+    let begin = c .before .before .before .before .begin in
+    let a = o .args in
+    let f = o .fits in (
       start-sized (a .canvas) (a .bytes .now) (arcFault (a .x) (a .y) (a .w) (a .h) (a .start) (a .arc)) (a .color) _ _
-          (arc-of (a .x) (a .y) (a .w) (a .h) (a .start) (a .arc) _ (f₀ .x) (f₀ .y) (f₀ .start) (f₀ .arc) (c .before .before .before .before .before .arc-fault .ensures))
-          (c .before .before .before .before .begin .ensures) _ (c .before .before .ink .given .1),
+          (first (or-else .ensures) (judge .ensures) (arc-of (a .x) (a .y) (a .w) (a .h) (a .start) (a .arc) _ (f .x) (f .y) (f .start) (f .arc) (arc-fault .ensures)))
+          (begin .ensures) _ (c .before .before .ink .given .1),
       omega arith,
     )
 
 returns : tie.Need-returns
 returns c =
-    let a = c .before .before .before .before .before .before .args in
-    let f₀ = c .before .before .before .before .before .before .fits in
+    let o = c .before .before .before .before .before .before .before .before in
+    let or-else = c .before .before .before .before .or-else in
+    let judge = c .before .before .before .before .before .before .judge in
+    let arc-fault = c .before .before .before .before .before .arc-fault in
+    let begin = c .before .before .before .begin in
+    let a = o .args in
+    let f = o .fits in
     start-refuses (a .canvas) (a .bytes .now) (arcFault (a .x) (a .y) (a .w) (a .h) (a .start) (a .arc)) (a .color) _ _
-    (arc-of (a .x) (a .y) (a .w) (a .h) (a .start) (a .arc) _ (f₀ .x) (f₀ .y) (f₀ .start) (f₀ .arc) (c .before .before .before .before .arc-fault .ensures))
-    (c .before .before .before .begin .ensures) _ _ _ (c .before .r .given .1)
+    (first (or-else .ensures) (judge .ensures) (arc-of (a .x) (a .y) (a .w) (a .h) (a .start) (a .arc) _ (f .x) (f .y) (f .start) (f .arc) (arc-fault .ensures)))
+    (begin .ensures) _ _ _ (c .before .r .given .1)
 
 same-length : tie.Need-same-length
 same-length c = search needs
@@ -47,31 +63,42 @@ same-length c = search needs
 returns-2 : tie.Need-returns-2
 unfolding dots
 returns-2 c =
-    let f₀ = c .before .before .before .before .before .before .before .before .before .before .fits in
-    let g₀ = c .before .before .before .before .before .before .before .before .before .before .good in
-    start-draws (c .before .before .before .before .before .before .before .before .before .before .args .canvas)
-    (c .before .before .before .before .before .before .before .before .before .before .args .bytes .now)
-    (arcFault (c .before .before .before .before .before .before .before .before .before .before .args .x)
-    (c .before .before .before .before .before .before .before .before .before .before .args .y) (c .before .before .before .before .before .before .before .before .before .before .args .w)
-    (c .before .before .before .before .before .before .before .before .before .before .args .h) (c .before .before .before .before .before .before .before .before .before .before .args .start)
-    (c .before .before .before .before .before .before .before .before .before .before .args .arc)) (c .before .before .before .before .before .before .before .before .before .before .args .color) _ _ (arc-of (c .before .before .before .before .before .before .before .before .before .before .args .x) (c .before .before .before .before .before .before .before .before .before .before .args .y) (c .before .before .before .before .before .before .before .before .before .before .args .w) (c .before .before .before .before .before .before .before .before .before .before .args .h) (c .before .before .before .before .before .before .before .before .before .before .args .start) (c .before .before .before .before .before .before .before .before .before .before .args .arc) _ (f₀ .x) (f₀ .y) (f₀ .start) (f₀ .arc) (c .before .before .before .before .before .before .before .before .arc-fault .ensures)) (c .before .before .before .before .before .before .before .begin .ensures) _ (c .before .before .before .before .before .ink .given .1) (c .before .before .before .before .before .before .before .before .before .before .args .clip) (arc (c .before .before .before .before .before .before .before .before .before .before .args .canvas) (c .before .before .before .before .before .before .before .before .before .before .args .x) (c .before .before .before .before .before .before .before .before .before .before .args .y) (c .before .before .before .before .before .before .before .before .before .before .args .w) (c .before .before .before .before .before .before .before .before .before .before .args .h) (c .before .before .before .before .before .before .before .before .before .before .args .start) (c .before .before .before .before .before .before .before .before .before .before .args .arc)) _ _
-    (record { byte = λ i. c .before .before .before .before .before .before .before .before .before .slice-known .given i .fits })
-    (record { a = g₀ .1 .1 .1 .1 .1 .1 .1 .1 .0 .1 .1 .0 .1; r = g₀ .1 .1 .1 .1 .1 .1 .1 .1 .0 .1 .1 .1 .0 .1; g = g₀ .1 .1 .1 .1 .1 .1 .1 .1 .0 .1 .1 .1 .1 .0 .1; b = g₀ .1 .1 .1 .1 .1 .1 .1 .1 .0 .1 .1 .1 .1 .1 .0 .1 })
+    let o = c .before .before .before .before .before .before .before .before .before .before .before .before in
+    let or-else = c .before .before .before .before .before .before .before .before .or-else in
+    let judge = c .before .before .before .before .before .before .before .before .before .before .judge in
+    let arc-fault = c .before .before .before .before .before .before .before .before .before .arc-fault in
+    let begin = c .before .before .before .before .before .before .before .begin in
+    let ink = c .before .before .before .before .before .ink in
+    let slice-known = c .before .before .before .before .before .before .before .before .before .before .before .slice-known in
+    let f = o .fits in
+    let g = o .good .1 .1 .1 .1 .1 .1 .1 .1 .0 .1 in
+    start-draws (o .args .canvas)
+    (o .args .bytes .now)
+    (arcFault (o .args .x)
+    (o .args .y) (o .args .w)
+    (o .args .h) (o .args .start)
+    (o .args .arc)) (o .args .color) _ _ (first (or-else .ensures) (judge .ensures)
+    (arc-of (o .args .x) (o .args .y) (o .args .w) (o .args .h) (o .args .start) (o .args .arc) _ (f .x) (f .y) (f .start) (f .arc) (arc-fault .ensures))) (begin
+    .ensures) _ (ink .given .1) (o .args .clip) (arc (o .args .canvas) (o .args .x) (o .args .y) (o .args .w) (o .args .h) (o .args .start) (o .args .arc)) _ _
+    (record { byte = λ i. slice-known .given i .fits })
+    (record { a = g .1 .0 .1; r = g .1 .1 .0 .1; g = g .1 .1 .1 .0 .1; b = g .1 .1 .1 .1 .0 .1 })
     (rw (
-      toZ-ofZ w32 (c .before .before .before .before .before .before .before .before .before .before .args .x) (f₀ .x),
+      toZ-ofZ w32 (o .args .x) (f .x),
       toZ-ofZ w32
-          (c .before .before .before .before .before .before .before .before .before .before .args .y) (f₀ .y),
+          (o .args .y) (f .y),
       toZ-ofZ w32
-          (c .before .before .before .before .before .before .before .before .before .before .args .start) (f₀ .start),
+          (o .args .start) (f .start),
       toZ-ofZ w32
-          (c .before .before .before .before .before .before .before .before .before .before .args .arc) (f₀ .arc),
+          (o .args .arc) (f .arc),
     ) at (c .before .before .arc-in .ensures))
 
 pub draw-arc-spec : {M : Type 1} → statement M
 draw-arc-spec =
     tie.close
     (tie.spec
+    judge-requires
     arc-fault-requires
+    or-else-requires
     begin-requires
     enum-known-r
     enum-known-ink

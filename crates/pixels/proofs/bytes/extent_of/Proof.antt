@@ -12,16 +12,22 @@ cast-area-2 : tie.Need-cast-area-2
 cast-area-2 c = search needs
 
 mul-area : tie.Need-mul-area
-mul-area c = record { fits = omega (arith, area-le (c .before .before .args .canvas .width) (c .before .before .args .canvas .height) (c .before .before .pre .0) (c .before .before .pre .1)) }
+mul-area c =
+    let v = c .before .before .args .canvas in
+    let p = c .before .before .pre in
+    record { fits = omega (arith, area-le (v .row) (v .height) (p .tails) (p .high)) }
 
 bytes-per-pixel-requires : tie.Need-bytes-per-pixel-requires
 bytes-per-pixel-requires c κs = search needs
 
 mul-result : tie.Need-mul-result
-mul-result c = record { fits = omega (arith, scaled-le (c .before .before .before .args .canvas) _ _ (area-le (c .before .before .before .args .canvas .width) (c .before .before .before .args .canvas .height) (c .before .before .before .pre .0) (c .before .before .before .pre .1)) (c .bytes-per-pixel .ensures)) }
+mul-result c =
+    let v = c .before .before .before .args .canvas in
+    let p = c .before .before .before .pre in
+    record { fits = omega (arith, scaled-le v _ _ (area-le (v .row) (v .height) (p .tails) (p .high)) (c .bytes-per-pixel .ensures)) }
 
 returns : tie.Need-returns
-returns c = extent-is (c .before .before .before .args .canvas) _ (c .bytes-per-pixel .ensures)
+returns c = extent-is (c .before .before .before .args .canvas) _ (c .before .before .before .pre .rows) (c .bytes-per-pixel .ensures)
 
 pub extent-of-spec : {M : Type 1} → statement M
 extent-of-spec =

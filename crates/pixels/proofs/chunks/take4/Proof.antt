@@ -2,6 +2,7 @@
 use native.Mathlib.Omega.{arith}
 use mathlib.Core.Path.{ap}
 use Prim.Native.Nat.{ℕ, _-_, _*_}
+use Rattle.pixels.proofs.bytes.Pixels.{bounded}
 use Rattle.pixels.proofs.chunks.Chunks.{Filled, filled-none, filled-more, filled-all, word-place}
 use Rattle.pixels.proofs.chunks.take4.Statement.{statement}
 use Rattle.pixels.proofs.chunks.take4.Tie as tie
@@ -16,19 +17,30 @@ loop-holds : tie.Need-loop-holds Inv-loop μ-loop
 loop-holds c = filled-none
 
 add-index : tie.Need-add-index Inv-loop μ-loop
-add-index c = record { fits = omega (arith, c .loop-test .taken, c .before .before .before .before .pre .1 .0, c .before .before .before .before .pre .0 .wide) }
+add-index c =
+    let p₀ = c .before .before .before .before .pre in
+    record { fits = omega (arith, c .loop-test .taken, p₀ .1 .0, p₀ .0 .wide) }
 
 index-requires : tie.Need-index-requires Inv-loop μ-loop
-index-requires c κs = ((record { across = omega (arith, c .loop-test .taken, c .before .before .before .before .pre .1 .0); down = c .before .before .before .before .pre .1 .1 .0 }), (c .before .before .before .before .pre .0 .wide, c .before .before .before .before .pre .0 .high))
+index-requires c κs =
+    let p₀ = c .before .before .before .before .pre in
+    ((record { across = omega (arith, c .loop-test .taken, p₀ .1 .0); down = p₀ .1 .1 .0 }), bounded (p₀ .0))
 
 mul-word4 : tie.Need-mul-word4 Inv-loop μ-loop
 mul-word4 c = record { fits = omega (arith, c .index .ensures .1) }
 
 word4-requires : tie.Need-word4-requires Inv-loop μ-loop
-word4-requires c κs = word-place (c .before .before .before .before .before .args .canvas) (c .before .before .before .before .before .args .b .now) (c .before .before .before .before .before .args .y) (c .before .before .before .before .before .args .x) (c .before .before .loop .i) _ 4 (c .before .before .loop .ws) (c .before .before .before .before .before .args .ws .now) (c .before .before .before .before .before .pre .0) (record { across = omega (arith, c .before .loop-test .taken, c .before .before .before .before .before .pre .1 .0); down = c .before .before .before .before .before .pre .1 .1 .0 }) (ap (λ (k : ℕ). k * 4) (c .index .ensures .0)) (c .before .before .before .before .before .pre .1 .1 .1)
+word4-requires c κs =
+    let a = c .before .before .before .before .before .args in
+    let l = c .before .before .loop in
+    let p₀ = c .before .before .before .before .before .pre in
+    word-place (a .canvas) (a .b .now) (a .y) (a .x) (l .i) _ 4 (l .ws) (a .ws .now) (p₀ .0)
+    (record { across = omega (arith, c .before .loop-test .taken, p₀ .1 .0); down = p₀ .1 .1 .0 }) (ap (λ (k : ℕ). k * 4) (c .index .ensures .0)) (p₀ .1 .1 .1)
 
 mul-ws : tie.Need-mul-ws Inv-loop μ-loop
-mul-ws c = record { fits = omega (arith, c .before .before .loop-test .taken, c .before .before .before .before .before .before .pre .1 .0, c .before .before .before .before .before .before .pre .0 .wide) }
+mul-ws c =
+    let p₀ = c .before .before .before .before .before .before .pre in
+    record { fits = omega (arith, c .before .before .loop-test .taken, p₀ .1 .0, p₀ .0 .wide) }
 
 slice-write-ws : tie.Need-slice-write-ws Inv-loop μ-loop
 slice-write-ws c = omega (arith, c .before .before .loop-test .taken, c .before .before .before .loop .inv .long)
@@ -40,7 +52,13 @@ loop-less : tie.Need-loop-less Inv-loop μ-loop
 loop-less c = omega arith
 
 loop-again : tie.Need-loop-again Inv-loop μ-loop
-loop-again c = filled-more (c .before .before .before .before .before .before .args .canvas) (c .before .before .before .before .before .before .args .b .now) (c .before .before .before .before .before .before .args .y) (c .before .before .before .before .before .before .args .x) (c .before .before .before .loop .i) _ 4 (c .before .before .before .loop .ws) (c .before .before .before .before .before .before .args .ws .now) (c .before .before .before .before .before .before .pre .0) (record { across = omega (arith, c .before .before .loop-test .taken, c .before .before .before .before .before .before .pre .1 .0); down = c .before .before .before .before .before .before .pre .1 .1 .0 }) (ap (λ (k : ℕ). k * 4) (c .before .index .ensures .0)) (c .before .before .before .before .before .before .pre .1 .1 .1) (c .before .before .before .loop .inv) (c .before .before .loop-test .taken) _ (c .word4 .ensures .0)
+loop-again c =
+    let a = c .before .before .before .before .before .before .args in
+    let l = c .before .before .before .loop in
+    let p₀ = c .before .before .before .before .before .before .pre in
+    filled-more (a .canvas) (a .b .now) (a .y) (a .x) (l .i) _ 4 (l .ws) (a .ws .now) (p₀ .0)
+    (record { across = omega (arith, c .before .before .loop-test .taken, p₀ .1 .0); down = p₀ .1 .1 .0 }) (ap (λ (k : ℕ). k * 4) (c .before .index .ensures .0)) (p₀ .1 .1 .1) (l .inv)
+    (c .before .before .loop-test .taken) _ (c .word4 .ensures .0)
 
 same-length : tie.Need-same-length Inv-loop μ-loop
 same-length c = c .before .loop .inv .long

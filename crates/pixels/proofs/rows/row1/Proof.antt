@@ -4,7 +4,9 @@ use native.Mathlib.Nat.{mul-one}
 use mathlib.Core.Path.{sym, _∙_}
 use Prim.Native.Nat.{_+_, _-_, _*_}
 use Rattle.words.specs.Ink.{inked}
+use Rattle.pixels.specs.Bytes.{pitch}
 use Rattle.pixels.specs.Rows.{run, flat, mark, marks}
+use Rattle.pixels.proofs.bytes.Pixels.{bounded}
 use Rattle.pixels.proofs.rows.Rows.{Rest, rest-start, rest-length, rest-sized, rest-turn, rest-end, row-place, row-touch}
 use Rattle.pixels.proofs.rows.row1.Statement.{statement}
 use Rattle.pixels.proofs.rows.row1.Tie as tie
@@ -19,10 +21,17 @@ loop-holds : tie.Need-loop-holds Inv-loop μ-loop
 loop-holds c = rest-start
 
 index-requires : tie.Need-index-requires Inv-loop μ-loop
-index-requires c κs = ((record { across = omega (arith, c .before .loop-test .taken, c .before .before .before .before .pre .1 .0); down = c .before .before .before .before .pre .1 .1 .0 }), (c .before .before .before .before .pre .0 .wide, c .before .before .before .before .pre .0 .high))
+index-requires c κs =
+    let p₀ = c .before .before .before .before .pre in
+    ((record { across = omega (arith, c .before .loop-test .taken, p₀ .1 .0); down = p₀ .1 .1 .0 }), bounded (p₀ .0))
 
 touch1-requires : tie.Need-touch1-requires Inv-loop μ-loop
-touch1-requires c κs = row-place (c .before .before .before .before .before .args .canvas) (c .before .before .before .loop .b) (c .before .before .before .loop .x) (c .before .before .before .before .before .args .y) _ 1 (rest-sized (c .before .before .before .loop .inv) (c .before .before .before .before .before .pre .0)) (record { across = omega (arith, c .before .before .loop-test .taken, c .before .before .before .before .before .pre .1 .0); down = c .before .before .before .before .before .pre .1 .1 .0 }) (c .index .ensures .0 ∙ sym (mul-one (c .before .before .before .before .before .args .y * c .before .before .before .before .before .args .canvas .width + c .before .before .before .loop .x))) (c .before .before .before .before .before .pre .1 .1 .1)
+touch1-requires c κs =
+    let a = c .before .before .before .before .before .args in
+    let l = c .before .before .before .loop in
+    let p₀ = c .before .before .before .before .before .pre in
+    row-place (a .canvas) (l .b) (l .x) (a .y) _ 1 (rest-sized (l .inv) (p₀ .0)) (record { across = omega (arith, c .before .before .loop-test .taken, p₀ .1 .0); down = p₀ .1 .1 .0 })
+    (c .index .ensures .0 ∙ sym (mul-one (a .y * pitch (a .canvas) + l .x))) (p₀ .1 .1 .1)
 
 add-x : tie.Need-add-x Inv-loop μ-loop
 add-x c = omega arith
@@ -31,13 +40,23 @@ loop-less : tie.Need-loop-less Inv-loop μ-loop
 loop-less c = omega arith
 
 loop-again : tie.Need-loop-again Inv-loop μ-loop
-loop-again c = rest-turn (c .before .before .before .before .before .before .before .before .args .canvas) (mark (flat (inked (c .before .before .before .before .before .before .before .before .args .ink))) (c .before .before .before .before .before .before .before .before .args .y)) (c .before .before .before .before .before .before .loop .x) (c .before .before .before .before .before .before .before .before .args .x1) (c .before .before .before .before .before .before .loop .inv) (c .before .before .before .before .before .loop-test .taken) (row-touch (c .before .before .before .before .before .before .before .before .args .canvas) (c .before .before .before .before .before .before .loop .b) (c .before .before .before .before .before .before .loop .x) (c .before .before .before .before .before .before .before .before .args .y) _ 1 (rest-sized (c .before .before .before .before .before .before .loop .inv) (c .before .before .before .before .before .before .before .before .pre .0)) (record { across = omega (arith, c .before .before .before .before .before .loop-test .taken, c .before .before .before .before .before .before .before .before .pre .1 .0); down = c .before .before .before .before .before .before .before .before .pre .1 .1 .0 }) (c .before .before .before .index .ensures .0 ∙ sym (mul-one (c .before .before .before .before .before .before .before .before .args .y * c .before .before .before .before .before .before .before .before .args .canvas .width + c .before .before .before .before .before .before .loop .x))) (c .before .before .before .before .before .before .before .before .pre .1 .1 .1) (inked (c .before .before .before .before .before .before .before .before .args .ink)) _ (c .before .before .touch1 .ensures))
+loop-again c =
+    let a = c .before .before .before .before .before .before .before .before .args in
+    let l = c .before .before .before .before .before .before .loop in
+    let p₀ = c .before .before .before .before .before .before .before .before .pre in
+    rest-turn (a .canvas) (mark (flat (inked (a .ink))) (a .y)) (l .x) (a .x1) (l .inv) (c .before .before .before .before .before .loop-test .taken)
+    (row-touch (a .canvas) (l .b) (l .x) (a .y) _ 1 (rest-sized (l .inv) (p₀ .0))
+    (record { across = omega (arith, c .before .before .before .before .before .loop-test .taken, p₀ .1 .0); down = p₀ .1 .1 .0 })
+    (c .before .before .before .index .ensures .0 ∙ sym (mul-one (a .y * pitch (a .canvas) + l .x))) (p₀ .1 .1 .1) (inked (a .ink)) _ (c .before .before .touch1 .ensures))
 
 same-length : tie.Need-same-length Inv-loop μ-loop
 same-length c = rest-length (c .before .loop .inv)
 
 returns : tie.Need-returns Inv-loop μ-loop
-returns c = rest-end (c .before .before .before .args .canvas) (mark (flat (inked (c .before .before .before .args .ink))) (c .before .before .before .args .y)) (c .before .loop .x) (c .before .before .before .args .x1) (c .before .loop .inv) (c .loop-test .left)
+returns c =
+    let a = c .before .before .before .args in
+    let l = c .before .loop in
+    rest-end (a .canvas) (mark (flat (inked (a .ink))) (a .y)) (l .x) (a .x1) (l .inv) (c .loop-test .left)
 
 pub row1-spec : {M : Type 1} → statement M
 row1-spec =

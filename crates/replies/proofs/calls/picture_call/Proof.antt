@@ -92,7 +92,7 @@ returns-2 c =
     let a = c .before .before .before .before .before .before .before .before .before .before .before .before .before .before .args in
     named (λ o. pictureBy o (a .n) (a .v) (a .k) (a .image .now) (a .bytes .now)) (match .keys2)
     (draw-is (a .n) (a .v) (a .k) (a .image .now) (a .bytes .now))
-    (made₆ (λ x y w h i j. call (a .v) (draw x y w h (canvasAt (a .n) 4 false) (a .image .now) i j (a .k)) (a .bytes .now))
+    (made₆ (λ x y w h i j. call (a .v) (draw x y w h (canvasAt (a .n) 4 8 false) (a .image .now) i j (a .k)) (a .bytes .now))
     (reaches (int .result) (int .ok) (int .ensures)) (reaches (int2 .result) (int2 .ok) (int2 .ensures)) (word .ensures) (word2 .ensures)
     (reaches (int3 .result) (int3 .ok) (int3 .ensures)) (reaches (int4 .result) (int4 .ok) (int4 .ensures)) (rw (sized .ensures) at (draw₁ .ensures)))
 

@@ -19,10 +19,21 @@ add-word-2 c = search needs
 word-requires-3 : tie.Need-word-requires-3
 word-requires-3 c κs = search needs
 
+word-requires-4 : tie.Need-word-requires-4
+word-requires-4 c κs = search needs
+
 returns : tie.Need-returns
 unfolding canvasAt
-returns c = rw (c .before .before .word .ensures, c .before .word2 .ensures, c .word3 .ensures)
+returns c = rw (c .before .before .before .word .ensures, c .before .before .word2 .ensures, c .before .word3 .ensures, c .word4 .ensures)
 
 pub sized-spec : {M : Type 1} → statement M
 sized-spec =
-    tie.close (tie.spec word-requires add-word word-requires-2 add-word-2 word-requires-3 returns)
+    tie.close
+    (tie.spec
+    word-requires
+    add-word
+    word-requires-2
+    add-word-2
+    word-requires-3
+    word-requires-4
+    returns)

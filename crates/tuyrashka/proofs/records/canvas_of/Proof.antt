@@ -17,6 +17,9 @@ element-copy-out-t10 c = search needs
 element-copy-out-t13 : tie.Need-element-copy-out-t13
 element-copy-out-t13 c = search needs
 
+element-copy-out-t16 : tie.Need-element-copy-out-t16
+element-copy-out-t16 c = search needs
+
 returns : tie.Need-returns
 unfolding canvasOf
 returns c = refl
@@ -29,4 +32,5 @@ canvas-of-spec =
     element-copy-out-t7
     element-copy-out-t10
     element-copy-out-t13
+    element-copy-out-t16
     returns)
