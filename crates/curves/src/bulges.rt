@@ -41,7 +41,7 @@ pub fn part(s: Side, i: u32) -> f32
     let by = s.by;
     let far = gap(2 * i, m);
     let k = less(far + s.arc, m);
-    let n = k as f32 / by as f32;
+    let n = k as i32 as f32 / by as i32 as f32;
     n * n
 }
 
