@@ -2,6 +2,7 @@
 // hangs on how far it lies from the middle of its row and of its column.
 ghost use mathlib.Core.Path.{_≡_};
 ghost use mathlib.Core.Bool.{true, false};
+ghost use lib.Dec.{ltb};
 ghost use Prim.Native.Nat.{_+_, _-_, _*_, _≤_, _<_, max};
 ghost use Rattle.curves.specs.Bulges.{pieSide, roundSide, Sided, partOn, hasAt, Rising, Run};
 use crate::corners::smaller;
@@ -14,19 +15,29 @@ pub struct Side {
     pub by: u32,
 }
 
+// Whether a number is below another, both below 2^31: several such at a time are tested as signed numbers.
+fn below(a: u32, b: u32) -> bool
+    requires { ⌜ (a < 2147483648) × (b < 2147483648) ⌝ }
+    ensures { λ r. ⌜ r ≡ ltb a b ⌝ }
+{
+    (a as i32) < (b as i32)
+}
+
 fn less(a: u32, b: u32) -> u32
+    requires { ⌜ (a < 2147483648) × (b < 2147483648) ⌝ }
     ensures { λ r. ⌜ r ≡ a - b ⌝ }
 {
-    if a < b {
+    if below(a, b) {
         return 0;
     }
     a - b
 }
 
 fn gap(a: u32, b: u32) -> u32
+    requires { ⌜ (a < 2147483648) × (b < 2147483648) ⌝ }
     ensures { λ r. ⌜ r ≡ (a - b) + (b - a) ⌝ }
 {
-    if a < b {
+    if below(a, b) {
         return b - a;
     }
     a - b

@@ -51,8 +51,12 @@ int-to-float-n-2 c = exact (c .before .before .before .before .before .before .a
 returns : tie.Need-returns
 unfolding partOn partAt
 returns c =
-    rw (plain (c .before .before .less .result) (omega (arith, c .before .before .less .ensures, c .before .before .before .before .gap .ensures, c .before .before .before .before .before .before .pre .0 .few, c .before .before .before .before .before .before .pre .0 .bent, c .before .before .before .before .before .before .pre .1)), plain (c .before .before .before .before .before .before .args .s .by) (omega (arith, c .before .before .before .before .before .before .pre .0 .small)),
-    c .before .before .less .ensures, c .before .before .before .before .gap .ensures)
+    rw (
+      plain (c .before .before .less .result) (omega (arith, c .before .before .less .ensures, c .before .before .before .before .gap .ensures, c .before .before .before .before .before .before .pre .0 .few, c .before .before .before .before .before .before .pre .0 .bent, c .before .before .before .before .before .before .pre .1)),
+      plain (c .before .before .before .before .before .before .args .s .by) (omega (arith, c .before .before .before .before .before .before .pre .0 .small)),
+      c .before .before .less .ensures,
+      c .before .before .before .before .gap .ensures,
+    )
 
 pub part-spec : {M : Type 1} → statement M
 part-spec =
