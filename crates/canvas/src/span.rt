@@ -1,11 +1,13 @@
 // Spans and clips: signed corners become numbers that are not negative at the door.
 ghost use mathlib.Core.Path.{_≡_};
 ghost use Prim.Native.Nat.{_+_, _-_, _≤_, _<_, min, max};
+ghost use mathlib.Core.Bool.{cond};
+ghost use lib.Dec.{ltb};
 ghost use lib.IntN.{pos, _+ℤ_};
 ghost use mir.Syntax.{w32};
 ghost use mir.Val.{toZ};
 ghost use Rattle.canvas.specs.Clip.{within, inClip, larger, shared};
-ghost use Rattle.canvas.specs.Walk.{lifted, lowered, cutOf};
+ghost use Rattle.canvas.specs.Walk.{lifted, lowered, span, cutOf};
 use crate::Clip;
 use pixels::rows::Span;
 
@@ -102,15 +104,10 @@ fn reach(u: u64, len: u32, z: u64) -> Span
     }
 }
 
-// What a span has of a canvas's side of n pixels inside the clip's span of m from c.
-fn cut(s: Span, c: i32, m: u32, n: u32) -> Span
-    requires { ⌜ n ≤ 32767 ⌝ }
-    ensures { λ r. ⌜ r ≡ cutOf (s .from) (s .to) c m n ⌝ }
+// From one place up to another; where that is nothing, from 0 up to 0.
+fn in_order(from: u64, to: u64) -> Span
+    ensures { λ r. ⌜ r ≡ cond (ltb to from) (span 0 0) (span from to) ⌝ }
 {
-    let k = reach(lift(c), m, 2147483648);
-    let from = most(s.from as u64, k.from as u64);
-    let end = least(s.to as u64, k.to as u64);
-    let to = least(end, n as u64);
     if to < from {
         return Span { from: 0, to: 0 };
     }
@@ -120,12 +117,26 @@ fn cut(s: Span, c: i32, m: u32, n: u32) -> Span
     }
 }
 
+// What a span has of a canvas's side of n pixels inside the clip's span of m from c.
+fn cut(s: Span, c: i32, m: u32, n: u32) -> Span
+    requires { ⌜ n ≤ 32767 ⌝ }
+    ensures { λ r. ⌜ r ≡ cutOf (s .from) (s .to) c m n ⌝ }
+{
+    let k = reach(lift(c), m, 2147483648);
+    let from = most(s.from as u64, k.from as u64);
+    let end = least(s.to as u64, k.to as u64);
+    in_order(from, least(end, n as u64))
+}
+
 // What the span of len from a lifted p has of a canvas's side of n pixels inside the clip's span of m from c.
 pub fn overlap(p: u64, len: u32, c: i32, m: u32, n: u32) -> Span
     requires { ⌜ (p < 17179869184) × (n ≤ 32767) ⌝ }
     ensures { λ r. ⌜ r ≡ cutOf (p - 2147483648) (p + len - 2147483648) c m n ⌝ }
 {
-    cut(reach(p, len, 2147483648), c, m, n)
+    let u = lift(c);
+    let from = less(most(p, u), 2147483648);
+    let end = least(p + len as u64, u + m as u64);
+    in_order(from, least(less(end, 2147483648), n as u64))
 }
 
 // A canvas's side of n pixels inside the clip's span of m from c.

@@ -226,15 +226,25 @@ module _ (lo end : ℕ) (c : ℤ) (m n : ℕ) (s : SFits w32 c) (cf ct : ℕ) (e
 -- what `cut` answers, as it works it out
 module _ (lo end : ℕ) (c : ℤ) (m n u cf ct from to : ℕ) (s : SFits w32 c) (eu : u ≡ lifted (toZ w32 (ofZ w32 c))) (ef : cf ≡ u - 2147483648) (et : ct ≡ u + m - 2147483648)
     (gf : from ≡ max lo cf) (gt : to ≡ min (min end ct) n) where
-  is-cut : cond (ltb to from) (span 0 0) (span from to) ≡ cutOf lo end c m n
+  pub is-cut : cond (ltb to from) (span 0 0) (span from to) ≡ cutOf lo end c m n
   unfolding cutOf
   is-cut = rw (gt, gf, et, ef, lift-is c u s eu) refl
 
-  pub is-none : to < from → span 0 0 ≡ cutOf lo end c m n
-  is-none l = rw (lt-ltb to from l) at is-cut
+max-lowered : (a b z : ℕ) → max a b - z ≡ max (a - z) (b - z)
+max-lowered a b z = omega arith
 
-  pub is-some : from ≤ to → span from to ≡ cutOf lo end c m n
-  is-some l = rw (le-ltb to from l) at is-cut
+min-lowered : (a b z : ℕ) → min a b - z ≡ min (a - z) (b - z)
+min-lowered a b z = omega arith
+
+-- what `overlap` answers: the largest start and the smallest end are found before they are lowered
+module _ (p len : ℕ) (c : ℤ) (m n u a from e l to : ℕ) (s : SFits w32 c) (eu : u ≡ lifted (toZ w32 (ofZ w32 c))) (ea : a ≡ max p u) (ef : from ≡ a - 2147483648)
+    (ee : e ≡ min (p + len) (u + m)) (el : l ≡ e - 2147483648) (et : to ≡ min l n) where
+  pub is-overlap : cond (ltb to from) (span 0 0) (span from to) ≡ cutOf (p - 2147483648) (p + len - 2147483648) c m n
+  is-overlap =
+      let gf : from ≡ max (p - 2147483648) (u - 2147483648) = ef ∙ ap (λ (k : ℕ). k - 2147483648) ea ∙ max-lowered p u 2147483648 in
+      let gl : l ≡ min (p + len - 2147483648) (u + m - 2147483648) = el ∙ ap (λ (k : ℕ). k - 2147483648) ee ∙ min-lowered (p + len) (u + m) 2147483648 in
+      let gt : to ≡ min (min (p + len - 2147483648) (u + m - 2147483648)) n = et ∙ ap (λ (k : ℕ). min k n) gl in
+      is-cut (p - 2147483648) (p + len - 2147483648) c m n u (u - 2147483648) (u + m - 2147483648) from to s eu refl refl gf gt
 
 -- and what that is
 pub cut-of : (lo end : ℕ) (c : ℤ) (m n : ℕ) (r : Span) → SFits w32 c → r ≡ cutOf lo end c m n → Cut lo end c m n (r .from) (r .to)
