@@ -52,15 +52,16 @@ struct Ours {
 /// A call that both sides make.
 #[derive(Clone, Copy)]
 enum Work {
-    /// The whole screen under a clip.
-    Fill(Clip),
+    /// Width, height and clip.
+    Fill(u32, u32, Clip),
     /// x, y, width, height.
     Rect(i32, i32, u32, u32),
-    Invert,
+    /// Width and height.
+    Invert(u32, u32),
     /// To, from, width, height.
     Copy((i32, i32), (i32, i32), u32, u32),
-    /// A whole image over the whole screen.
-    Draw,
+    /// So much of an image, width and height.
+    Draw(u32, u32),
 }
 
 impl Ours {
@@ -84,14 +85,14 @@ impl Ours {
         let d = &mut drawn;
         let status = unsafe {
             match work {
-                Work::Fill(clip) => tuyrashka_fill_rect(canvas, data, length, 0, 0, WIDTH, HEIGHT, argb, &part(clip), d),
+                Work::Fill(w, h, clip) => tuyrashka_fill_rect(canvas, data, length, 0, 0, w, h, argb, &part(clip), d),
                 Work::Rect(x, y, w, h) => tuyrashka_draw_rect(canvas, data, length, x, y, w, h, argb, &LENT, d),
-                Work::Invert => tuyrashka_invert_rect(canvas, data, length, 0, 0, WIDTH, HEIGHT, &LENT, d),
+                Work::Invert(w, h) => tuyrashka_invert_rect(canvas, data, length, 0, 0, w, h, &LENT, d),
                 Work::Copy((dx, dy), (sx, sy), w, h) => tuyrashka_copy_area(canvas, data, length, dx, dy, sx, sy, w, h, &LENT, d),
-                Work::Draw => {
+                Work::Draw(w, h) => {
                     let (source, image) = (&image.canvas, &image.bytes);
                     let (image, image_length) = (image.as_ptr(), image.len());
-                    tuyrashka_draw(canvas, data, length, 0, 0, WIDTH, HEIGHT, source, image, image_length, 0, 0, &LENT, d)
+                    tuyrashka_draw(canvas, data, length, 0, 0, w, h, source, image, image_length, 0, 0, &LENT, d)
                 }
             }
         };
@@ -146,11 +147,11 @@ fn canvas_of<P: PixelType + 'static>((width, height): (u32, u32), bytes: &[u8]) 
 fn rust_call(canvas: &mut dyn Canvas, image: &dyn Image, work: Work) {
     let canvas = black_box(canvas);
     match work {
-        Work::Fill(clip) => canvas.fill_rect(0, 0, WIDTH, HEIGHT, COLOR, clip),
+        Work::Fill(w, h, clip) => canvas.fill_rect(0, 0, w, h, COLOR, clip),
         Work::Rect(x, y, w, h) => canvas.draw_rect(x, y, w, h, COLOR, WHOLE),
-        Work::Invert => canvas.invert_rect(0, 0, WIDTH, HEIGHT, WHOLE),
+        Work::Invert(w, h) => canvas.invert_rect(0, 0, w, h, WHOLE),
         Work::Copy((dx, dy), (sx, sy), w, h) => canvas.copy_area(dx, dy, sx, sy, w, h, WHOLE),
-        Work::Draw => canvas.draw(0, 0, WIDTH, HEIGHT, image, 0, 0, WHOLE),
+        Work::Draw(w, h) => canvas.draw(0, 0, w, h, image, 0, 0, WHOLE),
     }
 }
 
@@ -213,6 +214,19 @@ fn get(format: u32) {
     row("get_pixel", format, false, "", PIXELS, times);
 }
 
+const FILL: Work = Work::Fill(WIDTH, HEIGHT, WHOLE);
+const INVERT: Work = Work::Invert(WIDTH, HEIGHT);
+const DRAW: Work = Work::Draw(WIDTH, HEIGHT);
+
+/// Calls so small that most of what they take is not for a pixel; each is named by its side.
+const SMALL: [(&str, &str, Work); 5] = [
+    ("fill_rect", "fill-1", Work::Fill(1, 1, WHOLE)),
+    ("draw_rect", "rect-4", Work::Rect(70, 110, 4, 4)),
+    ("invert_rect", "invert-1", Work::Invert(1, 1)),
+    ("copy_area", "copy-1", Work::Copy((1, 0), (0, 0), 1, 1)),
+    ("draw", "draw-4", Work::Draw(4, 4)),
+];
+
 /// Moves of the whole screen by a pixel, and of its left half to the right.
 const COPIES: [(&str, Work); 5] = [
     ("up", Work::Copy((0, 0), (0, 1), WIDTH, HEIGHT - 1)),
@@ -237,13 +251,13 @@ fn passes(name: &str, side: &str, format: u32, xor: bool, k: u32) {
     }
     let (image, lent) = pair(3, false, 8);
     let lent = lent.on(side);
-    let copy = |note| COPIES.into_iter().find(|(name, _)| *name == note);
+    let mut others = SMALL.map(|(_, note, work)| (note, work)).into_iter().chain(COPIES);
     let work = match name {
-        "fill" => Work::Fill(WHOLE),
+        "fill" => FILL,
         "rect" => Work::Rect(70, 110, 100, 100),
-        "invert" => Work::Invert,
-        "draw" => Work::Draw,
-        note => copy(note).expect("a call's name").1,
+        "invert" => INVERT,
+        "draw" => DRAW,
+        note => others.find(|(name, _)| *name == note).expect("a call's name").1,
     };
     for _ in 0..k {
         match side {
@@ -270,8 +284,8 @@ fn tails() {
     println!("|---|---|---|---|---|---|---|");
     let [up, _, _, right, _] = COPIES;
     let works = [
-        ("fill_rect", ("whole", Work::Fill(WHOLE))),
-        ("draw", ("ARGB over it", Work::Draw)),
+        ("fill_rect", ("whole", FILL)),
+        ("draw", ("ARGB over it", DRAW)),
         ("copy_area", up),
         ("copy_area", right),
     ];
@@ -306,17 +320,21 @@ fn main() {
     println!("| {WIDTH} by {HEIGHT} | format | XOR | how | Rust, ns a pixel | ours, ns a pixel | ours / Rust |");
     println!("|---|---|---|---|---|---|---|");
     for (note, clip) in [("whole", WHOLE), ("border cut", INNER)] {
-        modes().for_each(|(format, xor)| call("fill_rect", format, xor, note, 3, Work::Fill(clip)));
+        modes().for_each(|(format, xor)| call("fill_rect", format, xor, note, 3, Work::Fill(WIDTH, HEIGHT, clip)));
     }
     for (note, work) in [("100 by 100", Work::Rect(70, 110, 100, 100)), ("whole", Work::Rect(0, 0, WIDTH, HEIGHT))] {
         modes().for_each(|(format, xor)| call("draw_rect", format, xor, note, 3, work));
     }
-    (0..5).for_each(|format| call("invert_rect", format, false, "whole", 3, Work::Invert));
+    (0..5).for_each(|format| call("invert_rect", format, false, "whole", 3, INVERT));
     for (note, work) in COPIES {
         (0..5).for_each(|format| call("copy_area", format, false, note, 3, work));
     }
-    modes().for_each(|(format, xor)| call("draw", format, xor, "ARGB over it", 3, Work::Draw));
-    modes().for_each(|(format, xor)| call("draw", format, xor, "over its own", format, Work::Draw));
+    modes().for_each(|(format, xor)| call("draw", format, xor, "ARGB over it", 3, DRAW));
+    modes().for_each(|(format, xor)| call("draw", format, xor, "over its own", format, DRAW));
+    for (what, note, work) in SMALL {
+        let one_mode = matches!(work, Work::Invert(..) | Work::Copy(..));
+        modes().filter(|(_, xor)| !(one_mode && *xor)).for_each(|(format, xor)| call(what, format, xor, note, 3, work));
+    }
     modes().for_each(|(format, xor)| put(format, xor));
     (0..5).for_each(get);
     shapes::rows();

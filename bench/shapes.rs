@@ -27,7 +27,7 @@ use Shape::{Arc, FillRoundRect, Line, Pie, RoundRect};
 
 const AT: i32 = 60;
 
-const SHAPES: [(&str, Shape); 19] = [
+const SHAPES: [(&str, Shape); 24] = [
     ("shallow", Line([0, 100, 319, 200])),
     ("steep", Line([100, 0, 200, 319])),
     ("diagonal", Line([0, 0, 319, 319])),
@@ -47,6 +47,11 @@ const SHAPES: [(&str, Shape); 19] = [
     ("filled-round", FillRoundRect(200, 200)),
     ("filled-corners-20", FillRoundRect(20, 10)),
     ("filled-corners-10", FillRoundRect(10, 10)),
+    ("point", Line([100, 100, 100, 100])),
+    ("arc-4", Arc(4, 0, 360)),
+    ("pie-4", Pie(4, 0, 360)),
+    ("corners-4", RoundRect(4, 2)),
+    ("filled-corners-4", FillRoundRect(4, 2)),
 ];
 
 impl Shape {

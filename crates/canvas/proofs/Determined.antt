@@ -26,7 +26,6 @@ use Rattle.canvas.proofs.areas.invert_rect.Reads as invert-rect
 use Rattle.canvas.proofs.look.get_pixel.Reads as get-pixel
 use Rattle.canvas.proofs.faults.or_else.Reads as or-else
 use Rattle.canvas.proofs.faults.judge.Reads as judge
-use Rattle.canvas.proofs.faults.begin.Reads as begin
 use Rattle.canvas.proofs.span.lift.Reads as lift
 use Rattle.canvas.proofs.span.signed.Reads as signed
 use Rattle.canvas.proofs.span.overlap.Reads as overlap
@@ -140,9 +139,6 @@ or-else-determined κs a s s' r r' p q = p ∙ sym q
 
 pub judge-determined : (κs : _) (a : _) (s s' : _) (r r' : _) → judge.Post κs a r s → judge.Post κs a r' s' → r ≡ r'
 judge-determined κs a s s' r r' p q = p ∙ sym q
-
-pub begin-determined : (κs : _) (a : _) (s s' : _) (r r' : _) → begin.Post κs a r s → begin.Post κs a r' s' → r ≡ r'
-begin-determined κs a s s' r r' p q = p ∙ sym q
 
 pub lift-determined : (κs : _) (a : _) (s s' : _) (r r' : _) → lift.Post κs a r s → lift.Post κs a r' s' → r ≡ r'
 lift-determined κs a s s' r r' p q = p ∙ sym q

@@ -8,4 +8,3 @@ pub mod Calls
 pub mod Look
 pub mod Walk
 pub mod Trail
-pub mod Start

@@ -34,12 +34,13 @@ pub record Holds (t : ℕ → Bool) (lo end : ℕ) : Type 0 where
 abbrev pub span : ℕ → ℕ → Span
 span a b = record { from = a; to = b }
 
--- What the numbers from lo up to end have of a side of n pixels inside the clip's span of m from c; where that is nothing, from 0 up to 0.
+-- From one number up to another; where that is nothing, from 0 up to 0.
+abbrev pub inOrder : ℕ → ℕ → Span
+inOrder from to = cond (ltb to from) (span 0 0) (span from to)
+
+-- What the numbers from lo up to end have of a side of n pixels inside the clip's span of m from c.
 unfoldable pub cutOf : ℕ → ℕ → ℤ → ℕ → ℕ → Span
-cutOf lo end c m n =
-    let from = max lo (lifted c - 2147483648) in
-    let to = min (min end (lifted c + m - 2147483648)) n in
-    cond (ltb to from) (span 0 0) (span from to)
+cutOf lo end c m n = inOrder (max lo (lifted c - 2147483648)) (min (min end (lifted c + m - 2147483648)) n)
 
 -- What such a span is: of a side of n pixels, those from lo up to end that lie in the clip's span of m from c.
 pub record Cut (lo end : ℕ) (c : ℤ) (m n from to : ℕ) : Type 0 where

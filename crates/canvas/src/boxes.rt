@@ -13,8 +13,7 @@ ghost use Rattle.canvas.specs.Walk.{lowered, work, Keeps, Ready, Did};
 use crate::Clip;
 use crate::Drawn;
 use crate::Tally;
-use crate::faults::Start;
-use crate::faults::begin;
+use crate::faults::Verdict;
 use crate::faults::judge;
 use crate::plot::landed_more;
 use crate::span::lift;
@@ -69,9 +68,10 @@ pub fn fill_rect(
 ) -> Drawn
     ensures { λ r. ⌜ leaves r (now (bytes .exit)) ≡ call canvas (fillRect x y w h color clip) (now (bytes .entry)) ⌝ }
 {
-    match begin(judge(canvas, bytes.len()), canvas.format, canvas.xor, color) {
-        Start::Refused(r) => Drawn::Refused(r),
-        Start::With(ink) => {
+    match judge(canvas, bytes.len()) {
+        Verdict::Faulty(r) => Drawn::Refused(r),
+        Verdict::Sound => {
+            let ink = words::plot_ink(canvas.format, canvas.xor, color);
             let p = lift(x);
             let q = lift(y);
             let t = fill_in(canvas, bytes, p, q, w, h, ink, clip, Tally { landed: 0 });
@@ -173,9 +173,10 @@ pub fn draw_rect(
 ) -> Drawn
     ensures { λ r. ⌜ leaves r (now (bytes .exit)) ≡ call canvas (drawRect x y w h color clip) (now (bytes .entry)) ⌝ }
 {
-    match begin(judge(canvas, bytes.len()), canvas.format, canvas.xor, color) {
-        Start::Refused(r) => Drawn::Refused(r),
-        Start::With(ink) => {
+    match judge(canvas, bytes.len()) {
+        Verdict::Faulty(r) => Drawn::Refused(r),
+        Verdict::Sound => {
+            let ink = words::plot_ink(canvas.format, canvas.xor, color);
             let p = lift(x);
             let q = lift(y);
             let t = outline_in(canvas, bytes, p, q, w, h, ink, clip, Tally { landed: 0 });

@@ -2,11 +2,8 @@
 ghost use mathlib.Core.Path.{_≡_};
 ghost use Rattle.pixels.specs.Bytes.{Bounded};
 ghost use Rattle.canvas.specs.Faults.{formatFault, sizeFault, rowFault, lengthFault, orElse, verdict};
-ghost use Rattle.canvas.specs.Start.{started};
 use crate::Refusal;
 use pixels::Canvas;
-use words::Color;
-use words::Ink;
 
 pub enum Verdict {
     Sound,
@@ -83,20 +80,4 @@ pub fn judge(canvas: Canvas, len: usize) -> Verdict
         return t;
     };
     length_fault(canvas, len)
-}
-
-// How a call of one colour starts: refused, or with the ink of its plots.
-pub enum Start {
-    Refused(Refusal),
-    With(Ink),
-}
-
-// Refused for a fault, or with the ink of the colour on a canvas of this format and switch.
-pub fn begin(fault: Verdict, format: u32, xor: bool, color: Color) -> Start
-    ensures { λ r. ⌜ r ≡ started fault format xor color ⌝ }
-{
-    match fault {
-        Verdict::Faulty(r) => Start::Refused(r),
-        Verdict::Sound => Start::With(words::plot_ink(format, xor, color)),
-    }
 }

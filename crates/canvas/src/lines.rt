@@ -12,8 +12,7 @@ ghost use Rattle.canvas.specs.Trail.{apart, wayOf, penOf, toward, across
 use crate::Clip;
 use crate::Drawn;
 use crate::Tally;
-use crate::faults::Start;
-use crate::faults::begin;
+use crate::faults::Verdict;
 use crate::faults::judge;
 use crate::plot::dab;
 use crate::span::lift;
@@ -168,10 +167,10 @@ fn segment_in(canvas: Canvas, b: &mut [u8], s: Segment, ink: Ink, clip: Clip, t:
     requires { ⌜ (Sized canvas (now b)) × (t .landed < 9223372036854775808) ⌝ }
     ensures { λ r. ⌜ Did canvas clip (inks (inked ink) (bresenham s)) (work (now (b .entry)) t) (work (now (b .exit)) r) ⌝ }
 {
-    let xs = window(clip.x, clip.width, canvas.width);
-    let ys = window(clip.y, clip.height, canvas.height);
     let way = way_of(s);
     let from = pen_of(s);
+    let xs = window(clip.x, clip.width, canvas.width);
+    let ys = window(clip.y, clip.height, canvas.height);
     let f = canvas.format;
     match f {
         0 => walk(canvas, b, xs, ys, 1, way, from, ink, t),
@@ -213,18 +212,21 @@ pub fn draw_line(
 ) -> Drawn
     ensures { λ r. ⌜ leaves r (now (bytes .exit)) ≡ call canvas (drawLine x1 y1 x2 y2 color clip) (now (bytes .entry)) ⌝ }
 {
-    match begin(judge(canvas, bytes.len()), canvas.format, canvas.xor, color) {
-        Start::Refused(r) => Drawn::Refused(r),
-        Start::With(ink) => Drawn::Done(line_in(
-            canvas,
-            bytes,
-            x1,
-            y1,
-            x2,
-            y2,
-            ink,
-            clip,
-            Tally { landed: 0 },
-        )),
+    match judge(canvas, bytes.len()) {
+        Verdict::Faulty(r) => Drawn::Refused(r),
+        Verdict::Sound => {
+            let ink = words::plot_ink(canvas.format, canvas.xor, color);
+            Drawn::Done(line_in(
+                canvas,
+                bytes,
+                x1,
+                y1,
+                x2,
+                y2,
+                ink,
+                clip,
+                Tally { landed: 0 },
+            ))
+        }
     }
 }

@@ -10,8 +10,7 @@ ghost use Rattle.canvas.specs.Walk.{lowered, plus, work, covers, dabbed,
 use crate::Clip;
 use crate::Drawn;
 use crate::Tally;
-use crate::faults::Start;
-use crate::faults::begin;
+use crate::faults::Verdict;
 use crate::faults::judge;
 use crate::span::lift;
 use crate::span::on_side;
@@ -112,9 +111,10 @@ pub fn put_pixel(
 ) -> Drawn
     ensures { λ r. ⌜ leaves r (now (bytes .exit)) ≡ call canvas (putPixel x y color clip) (now (bytes .entry)) ⌝ }
 {
-    match begin(judge(canvas, bytes.len()), canvas.format, canvas.xor, color) {
-        Start::Refused(r) => Drawn::Refused(r),
-        Start::With(ink) => {
+    match judge(canvas, bytes.len()) {
+        Verdict::Faulty(r) => Drawn::Refused(r),
+        Verdict::Sound => {
+            let ink = words::plot_ink(canvas.format, canvas.xor, color);
             let p = lift(x);
             let q = lift(y);
             let t = plot_at(canvas, bytes, p, q, ink, clip, Tally { landed: 0 });

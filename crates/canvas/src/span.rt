@@ -1,13 +1,11 @@
 // Spans and clips: signed corners become numbers that are not negative at the door.
 ghost use mathlib.Core.Path.{_≡_};
-ghost use Prim.Native.Nat.{_+_, _-_, _≤_, _<_, min, max};
-ghost use mathlib.Core.Bool.{cond};
-ghost use lib.Dec.{ltb};
+ghost use Prim.Native.Nat.{_+_, _-_, _<_, min, max};
 ghost use lib.IntN.{pos, _+ℤ_};
 ghost use mir.Syntax.{w32};
 ghost use mir.Val.{toZ};
 ghost use Rattle.canvas.specs.Clip.{within, inClip, larger, shared};
-ghost use Rattle.canvas.specs.Walk.{lifted, lowered, span, cutOf};
+ghost use Rattle.canvas.specs.Walk.{lifted, lowered, inOrder, cutOf};
 use crate::Clip;
 use pixels::rows::Span;
 
@@ -91,22 +89,9 @@ pub(crate) fn on_side(p: u64, n: u32) -> bool
     at < n as u64
 }
 
-// The span of len from u, as it is seen from z: what lies before z is cut off.
-fn reach(u: u64, len: u32, z: u64) -> Span
-    requires { ⌜ u < 17179869184 ⌝ }
-    ensures { λ r. ⌜ (r .from ≡ u - z) × (r .to ≡ u + len - z) ⌝ }
-{
-    let from = less(u, z);
-    let to = less(u + len as u64, z);
-    Span {
-        from: from as usize,
-        to: to as usize,
-    }
-}
-
 // From one place up to another; where that is nothing, from 0 up to 0.
 fn in_order(from: u64, to: u64) -> Span
-    ensures { λ r. ⌜ r ≡ cond (ltb to from) (span 0 0) (span from to) ⌝ }
+    ensures { λ r. ⌜ r ≡ inOrder from to ⌝ }
 {
     if to < from {
         return Span { from: 0, to: 0 };
@@ -117,61 +102,43 @@ fn in_order(from: u64, to: u64) -> Span
     }
 }
 
-// What a span has of a canvas's side of n pixels inside the clip's span of m from c.
-fn cut(s: Span, c: i32, m: u32, n: u32) -> Span
-    requires { ⌜ n ≤ 32767 ⌝ }
-    ensures { λ r. ⌜ r ≡ cutOf (s .from) (s .to) c m n ⌝ }
+// The places from one lifted number up to another, on a canvas's side of n pixels.
+fn on_canvas(from: u64, end: u64, n: u32) -> Span
+    ensures { λ r. ⌜ r ≡ inOrder (from - 2147483648) (min (end - 2147483648) n) ⌝ }
 {
-    let k = reach(lift(c), m, 2147483648);
-    let from = most(s.from as u64, k.from as u64);
-    let end = least(s.to as u64, k.to as u64);
-    in_order(from, least(end, n as u64))
+    let to = less(end, 2147483648);
+    in_order(less(from, 2147483648), least(to, n as u64))
 }
 
 // What the span of len from a lifted p has of a canvas's side of n pixels inside the clip's span of m from c.
 pub fn overlap(p: u64, len: u32, c: i32, m: u32, n: u32) -> Span
-    requires { ⌜ (p < 17179869184) × (n ≤ 32767) ⌝ }
+    requires { ⌜ p < 17179869184 ⌝ }
     ensures { λ r. ⌜ r ≡ cutOf (p - 2147483648) (p + len - 2147483648) c m n ⌝ }
 {
     let u = lift(c);
-    let from = less(most(p, u), 2147483648);
     let end = least(p + len as u64, u + m as u64);
-    in_order(from, least(less(end, 2147483648), n as u64))
+    on_canvas(most(p, u), end, n)
 }
 
 // A canvas's side of n pixels inside the clip's span of m from c.
 pub fn window(c: i32, m: u32, n: u32) -> Span
-    requires { ⌜ n ≤ 32767 ⌝ }
     ensures { λ r. ⌜ r ≡ cutOf 0 n c m n ⌝ }
 {
-    let all = Span {
-        from: 0,
-        to: n as usize,
-    };
-    cut(all, c, m, n)
-}
-
-// What two spans share.
-fn meet(a: Span, b: Span) -> Span
-    ensures { λ r. ⌜ (r .from ≡ max (a .from) (b .from)) × (r .to ≡ min (a .to) (b .to)) ⌝ }
-{
-    let from = most(a.from as u64, b.from as u64);
-    let to = least(a.to as u64, b.to as u64);
-    Span {
-        from: from as usize,
-        to: to as usize,
-    }
+    let u = lift(c);
+    on_canvas(u, u + m as u64, n)
 }
 
 // The part of a canvas's side of n pixels that lies in the span of len from p and in the clip's, and whose source from s
 // on is on a side of m. Starts are lifted.
 pub fn shown_in(p: u64, s: u64, len: u32, m: u32, c: i32, k: u32, n: u32) -> Span
-    requires { ⌜ (n ≤ 32767) × ((p < 4294967296) × (s < 4294967296)) ⌝ }
+    requires { ⌜ p < 4294967296 ⌝ }
     ensures { λ r. ⌜ r ≡ cutOf (max (p - 2147483648) (p - s)) (min (p + len - 2147483648) (p + m - s)) c k n ⌝ }
 {
-    let own = reach(p, len, 2147483648);
-    let source = reach(p, m, s);
-    cut(meet(own, source), c, k, n)
+    let u = lift(c);
+    let q = p + 2147483648;
+    let from = most(most(p, u), less(q, s));
+    let end = least(p + len as u64, u + k as u64);
+    on_canvas(from, least(end, less(q + m as u64, s)), n)
 }
 
 pub(crate) fn larger_of(a: i32, b: i32) -> i32

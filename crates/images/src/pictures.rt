@@ -18,7 +18,6 @@ use canvas::Refusal;
 use canvas::Tally;
 use canvas::faults::Verdict;
 use canvas::faults::judge;
-use canvas::faults::or_else;
 use canvas::span::lift;
 use canvas::span::shown_in;
 use pixels::Canvas;
@@ -193,20 +192,20 @@ pub fn draw(
 ) -> Drawn
     ensures { λ r. ⌜ leaves r (now (bytes .exit)) ≡ call canvas (drawCall dx dy w h source (now (image .entry)) sx sy clip) (now (bytes .entry)) ⌝ }
 {
-    match or_else(
-        judge(canvas, bytes.len()),
-        judge_source(source, image.len()),
-    ) {
+    match judge(canvas, bytes.len()) {
         Verdict::Faulty(r) => Drawn::Refused(r),
-        Verdict::Sound => {
-            let p = lift(dx);
-            let q = lift(dy);
-            let u = lift(sx);
-            let v = lift(sy);
-            let xs = shown_in(p, u, w, source.width, clip.x, clip.width, canvas.width);
-            let ys = shown_in(q, v, h, source.height, clip.y, clip.height, canvas.height);
-            let n = draw_in(canvas, bytes, xs, ys, source, image, p, q, u, v);
-            Drawn::Done(Tally { landed: n })
-        }
+        Verdict::Sound => match judge_source(source, image.len()) {
+            Verdict::Faulty(r) => Drawn::Refused(r),
+            Verdict::Sound => {
+                let p = lift(dx);
+                let q = lift(dy);
+                let u = lift(sx);
+                let v = lift(sy);
+                let xs = shown_in(p, u, w, source.width, clip.x, clip.width, canvas.width);
+                let ys = shown_in(q, v, h, source.height, clip.y, clip.height, canvas.height);
+                let n = draw_in(canvas, bytes, xs, ys, source, image, p, q, u, v);
+                Drawn::Done(Tally { landed: n })
+            }
+        },
     }
 }

@@ -17,8 +17,7 @@ use canvas::Clip;
 use canvas::Drawn;
 use canvas::Tally;
 use canvas::boxes::is_empty;
-use canvas::faults::Start;
-use canvas::faults::begin;
+use canvas::faults::Verdict;
 use canvas::faults::judge;
 use canvas::faults::or_else;
 use canvas::plot::dab;
@@ -167,21 +166,24 @@ pub fn draw_arc(
         judge(canvas, bytes.len()),
         arc_fault(x, y, w, h, start, arc),
     );
-    match begin(fault, canvas.format, canvas.xor, color) {
-        Start::Refused(r) => Drawn::Refused(r),
-        Start::With(ink) => Drawn::Done(arc_in(
-            canvas,
-            bytes,
-            x,
-            y,
-            w,
-            h,
-            start,
-            arc,
-            ink,
-            clip,
-            Tally { landed: 0 },
-        )),
+    match fault {
+        Verdict::Faulty(r) => Drawn::Refused(r),
+        Verdict::Sound => {
+            let ink = words::plot_ink(canvas.format, canvas.xor, color);
+            Drawn::Done(arc_in(
+                canvas,
+                bytes,
+                x,
+                y,
+                w,
+                h,
+                start,
+                arc,
+                ink,
+                clip,
+                Tally { landed: 0 },
+            ))
+        }
     }
 }
 

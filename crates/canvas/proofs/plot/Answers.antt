@@ -19,18 +19,15 @@ use Rattle.canvas.specs.declared.Refusal.{Refusal}
 use Rattle.canvas.specs.declared.Tally.{Tally}
 use Rattle.canvas.specs.declared.faults.Verdict.{Verdict}
 use Rattle.canvas.specs.declared.faults.Verdict.the-variants.{Sound, Faulty}
-use Rattle.canvas.specs.declared.faults.Start.{Start}
-use Rattle.canvas.specs.declared.faults.Start.the-variants as start
 use Rattle.pixels.specs.Bytes.{form, Sized}
 use Rattle.canvas.specs.Faults.{orElse, verdict, asSource}
 use Rattle.canvas.specs.Plot.{Plot, plot, Point, inks, Dye, plain, tint, dip, hits}
 use Rattle.pixels.specs.Hits.{paint}
 use Rattle.canvas.specs.Call.{brush, outcome, statusOf, countOf, leaves, drawing}
-use Rattle.canvas.specs.Start.{started}
 use Rattle.canvas.specs.Walk.{Work, work, Keeps, Did}
 use Rattle.pixels.proofs.bytes.Cells.{Bytes}
 use Rattle.canvas.proofs.plot.Paints.{drawn-is, drawn-ink}
-use Rattle.canvas.proofs.faults.Verdicts.{or-nothing, both-sound, sized}
+use Rattle.canvas.proofs.faults.Verdicts.{or-faulty, or-sound, or-nothing, both-sound, sized}
 
 -- points in one dye
 pub dip-tint : (g : Dye → ℕ → ℕ) (d : Dye) (ps : List Point) → dip g (tint d ps) ≡ inks (g d) ps
@@ -56,16 +53,14 @@ as-source : (a : Verdict) → asSource a ≡ Sound → a ≡ Sound
 as-source Sound q = refl
 as-source (Faulty r) q = absurd (let z : _≡_ {A = ℕ} 0 1 = cc in omega arith)
 
-module _ (v : Canvas) (b : List ℕ) (s : Canvas) (m : List ℕ) (f d a : Verdict)
-    (e : a ≡ orElse f d) (p : f ≡ verdict v (length b)) (q : d ≡ asSource (verdict s (length m))) where
-  pub first-of : a ≡ orElse (verdict v (length b)) (asSource (verdict s (length m)))
-  first-of = e ∙ ap₂ orElse p q
+pub canvas-first : (v : Canvas) (b : List ℕ) (own f : Verdict) (r : Refusal) → f ≡ verdict v (length b) → f ≡ Faulty r → orElse (verdict v (length b)) own ≡ Faulty r
+canvas-first v b own f r p h = let e = sym p ∙ h in sym (or-faulty _ own r e) ∙ e
 
-  pub first-sized : a ≡ Sound → Sized v b
-  first-sized h = sized v b (both-sound _ _ (sym first-of ∙ h) .0)
+pub source-next : (v : Canvas) (b : List ℕ) (own f d : Verdict) → f ≡ verdict v (length b) → f ≡ Sound → d ≡ own → orElse (verdict v (length b)) own ≡ d
+source-next v b own f d p h q = sym (or-sound _ own (sym p ∙ h)) ∙ sym q
 
-  pub first-source : a ≡ Sound → Sized s m
-  first-source h = sized s m (as-source _ (both-sound (verdict v (length b)) (asSource (verdict s (length m))) (sym first-of ∙ h) .1))
+pub source-sized : (s : Canvas) (m : List ℕ) (d : Verdict) → d ≡ asSource (verdict s (length m)) → d ≡ Sound → Sized s m
+source-sized s m d q h = sized s m (as-source (verdict s (length m)) (sym q ∙ h))
 
 -- the plots were made, and the call is accepted
 pub finishes : (v : Canvas) (b : List ℕ) (c : Clip) (ps : List Plot) (a : Verdict) (t₀ t : Tally) (b′ : List ℕ) → a ≡ Sound → t₀ .landed ≡ 0 → Did v c ps (work b t₀) (work b′ t)
@@ -90,48 +85,29 @@ pub draws : (v : Canvas) (b : List ℕ) (c : Clip) (d : Dye) (ps : List Point) (
 draws v b c d ps i a t b′ h o k w =
     rw (dip-tint (brush v) d ps) (finishes v b c (inks (brush v d) ps) a (record { landed = 0 }) t b′ h refl (did-ink (inked i) (brush v d) ps o k w))
 
--- ---- what the start of a call of one colour says
+-- ---- what the first fault of a call of one colour says
 
--- the fault that a call starts with: the canvas's alone, or its own behind it
+-- the canvas's alone, or the call's own behind it
 pub alone : {d f : Verdict} → d ≡ f → d ≡ orElse f Sound
 alone {f = f} e = e ∙ sym (or-nothing f)
 
 pub first : {d a b f o : Verdict} → d ≡ orElse a b → a ≡ f → b ≡ o → d ≡ orElse f o
 first e p q = e ∙ ap₂ orElse p q
 
-started-refused : (a : Verdict) (f : ℕ) (x : Bool) (color : Color) (r : Refusal) → started a f x color ≡ start.Refused r → a ≡ Faulty r
-unfolding started
-started-refused Sound f x color r e = absurd (let z : _≡_ {A = ℕ} 0 1 = cc in omega arith)
-started-refused (Faulty s) f x color r e = cc
+module _ (v : Canvas) (b : List ℕ) (own d : Verdict) (f : d ≡ orElse (verdict v (length b)) own) where
+  pub start-refuses : (c : Clip) (ps : List Plot) (r : Refusal) → d ≡ Faulty r → leaves (Refused r) b ≡ drawing (orElse (verdict v (length b)) own) v c ps b
+  start-refuses c ps r h = declines v b (orElse (verdict v (length b)) own) c ps r (sym f ∙ h)
 
-started-with : (a : Verdict) (f : ℕ) (x : Bool) (color : Color) (i : Ink) → started a f x color ≡ start.With i → (a ≡ Sound) × (i ≡ plotInk (formatOf f) x color)
-unfolding started
-started-with Sound f x color i e = (refl, cc)
-started-with (Faulty s) f x color i e = absurd (let z : _≡_ {A = ℕ} 0 1 = cc in omega arith)
-
-module _ (v : Canvas) (b : List ℕ) (own : Verdict) (color : Color) (d : Verdict) (s : Start) (f : d ≡ orElse (verdict v (length b)) own) (e : s ≡ started d (v .format) (v .xor) color) where
-  start-is : s ≡ started (orElse (verdict v (length b)) own) (v .format) (v .xor) color
-  start-is = rw (← f) e
-
-  -- a refusal is the first fault
-  pub start-refuses : (c : Clip) (ps : List Plot) (r : Refusal) → s ≡ start.Refused r → leaves (Refused r) b ≡ drawing (orElse (verdict v (length b)) own) v c ps b
-  start-refuses c ps r h = declines v b (orElse (verdict v (length b)) own) c ps r (started-refused _ (v .format) (v .xor) color r (sym start-is ∙ h))
-
-  -- an ink comes without a fault, and is the colour's
-  module _ (i : Ink) (h : s ≡ start.With i) where
-    with-is : (orElse (verdict v (length b)) own ≡ Sound) × (i ≡ plotInk (form v) (v .xor) color)
-    with-is = started-with (orElse (verdict v (length b)) own) (v .format) (v .xor) color i (sym start-is ∙ h)
-
+  module _ (h : d ≡ Sound) where
     pub start-sized : Sized v b
-    start-sized = sized v b (both-sound (verdict v (length b)) own (with-is .0) .0)
+    start-sized = sized v b (both-sound (verdict v (length b)) own (sym f ∙ h) .0)
 
     pub start-own : own ≡ Sound
-    start-own = both-sound (verdict v (length b)) own (with-is .0) .1
+    start-own = both-sound (verdict v (length b)) own (sym f ∙ h) .1
 
-    pub start-keeps : Channels color → Keeps v i
-    start-keeps k = ink-keeps v color i k (with-is .1)
-
-    pub start-draws : (c : Clip) (ps : List Point) (t : Tally) (b′ : List ℕ) → Bytes b → Channels color → Did v c (inks (inked i) ps) (work b (record { landed = 0 })) (work b′ t)
+    -- what is then drawn with the colour's ink
+    pub start-draws : (color : Color) (i : Ink) → i ≡ plotInk (form v) (v .xor) color
+        → (c : Clip) (ps : List Point) (t : Tally) (b′ : List ℕ) → Bytes b → Channels color → Did v c (inks (inked i) ps) (work b (record { landed = 0 })) (work b′ t)
         → leaves (Done t) b′ ≡ drawing (orElse (verdict v (length b)) own) v c (dip (brush v) (tint (plain color) ps)) b
-    start-draws c ps t b′ q k w =
-        draws v b c (plain color) ps i (orElse (verdict v (length b)) own) t b′ (with-is .0) q (λ u l. rw (with-is .1) (ink-is (form v) (v .xor) color u k l)) w
+    start-draws color i e c ps t b′ q k w =
+        draws v b c (plain color) ps i (orElse (verdict v (length b)) own) t b′ (sym f ∙ h) q (λ u l. rw e (ink-is (form v) (v .xor) color u k l)) w

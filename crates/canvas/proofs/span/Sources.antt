@@ -7,7 +7,6 @@ use native.Mathlib.Decide.{decLe}
 use lib.IntN.{ℤ, pos, negsuc, subℕ, natAbs, _+ℤ_, _-ℤ_}
 use mir.Syntax.{w32}
 use mir.Val.{SFits, toZ, ofZ}
-use mir.ValLaws.{toZ-ofZ}
 use Rattle.pixels.specs.declared.rows.Span.{Span}
 use Rattle.canvas.specs.Clip.{within}
 use Rattle.canvas.specs.Boxes.{sourceOf}
@@ -54,12 +53,7 @@ begin-of p s from h = omega arith
 end-of : (p s m from to : ℕ) → p - s ≤ from → to ≤ p + m - s → from < to → from + s - p + (to - from) ≤ m
 end-of p s m from to h k l = omega arith
 
--- what `shown_in` answers, as it works it out
-pub shown-from : (p s len m : ℕ) (c : ℤ) (k n af at bf bt lo end : ℕ) (r : Span) → SFits w32 c → af ≡ p - 2147483648 → at ≡ p + len - 2147483648 → bf ≡ p - s → bt ≡ p + m - s
-    → lo ≡ max af bf → end ≡ min at bt → r ≡ cutOf lo end (toZ w32 (ofZ w32 c)) k n → r ≡ cutOf (max (p - 2147483648) (p - s)) (min (p + len - 2147483648) (p + m - s)) c k n
-shown-from p s len m c k n af at bf bt lo end r f e1 e2 e3 e4 e5 e6 e = rw (toZ-ofZ w32 c f, e5, e6, e1, e2, e3, e4) at e
-
--- and what that is
+-- what `shown_in` answers
 pub shown-is : (p s len m : ℕ) (c : ℤ) (k n : ℕ) (r : Span) → SFits w32 c → r ≡ cutOf (max (p - 2147483648) (p - s)) (min (p + len - 2147483648) (p + m - s)) (toZ w32 (ofZ w32 c)) k n
     → Shown p s len m (toZ w32 (ofZ w32 c)) k n (r .from) (r .to)
 shown-is p s len m c k n r f e = record {

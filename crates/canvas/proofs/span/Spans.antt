@@ -17,7 +17,7 @@ use Rattle.canvas.specs.declared.Clip.{Clip}
 use Rattle.pixels.specs.declared.rows.Span.{Span}
 use Rattle.canvas.specs.Clip.{within, inClip}
 use Rattle.canvas.specs.Boxes.{select}
-use Rattle.canvas.specs.Walk.{lifted, lowered, Holds, Cut, span, cutOf}
+use Rattle.canvas.specs.Walk.{lifted, lowered, Holds, Cut, inOrder, cutOf}
 use Rattle.pixels.specs.Rows.{run}
 use Rattle.canvas.proofs.span.Lifts.{lift-is, lift-lt, lower-lift, lowered-neg, lowered-pos}
 
@@ -223,28 +223,57 @@ module _ (lo end : ℕ) (c : ℤ) (m n : ℕ) (s : SFits w32 c) (cf ct : ℕ) (e
             neither (yes h) = rw (lt-leb from i (omega arith)) refl
             neither (no h) = rw (le-ltb i to (omega arith)) (both-no (leb from i))
 
--- what `cut` answers, as it works it out
-module _ (lo end : ℕ) (c : ℤ) (m n u cf ct from to : ℕ) (s : SFits w32 c) (eu : u ≡ lifted (toZ w32 (ofZ w32 c))) (ef : cf ≡ u - 2147483648) (et : ct ≡ u + m - 2147483648)
-    (gf : from ≡ max lo cf) (gt : to ≡ min (min end ct) n) where
-  pub is-cut : cond (ltb to from) (span 0 0) (span from to) ≡ cutOf lo end c m n
-  unfolding cutOf
-  is-cut = rw (gt, gf, et, ef, lift-is c u s eu) refl
-
 max-lowered : (a b z : ℕ) → max a b - z ≡ max (a - z) (b - z)
 max-lowered a b z = omega arith
 
 min-lowered : (a b z : ℕ) → min a b - z ≡ min (a - z) (b - z)
 min-lowered a b z = omega arith
 
--- what `overlap` answers: the largest start and the smallest end are found before they are lowered
-module _ (p len : ℕ) (c : ℤ) (m n u a from e l to : ℕ) (s : SFits w32 c) (eu : u ≡ lifted (toZ w32 (ofZ w32 c))) (ea : a ≡ max p u) (ef : from ≡ a - 2147483648)
-    (ee : e ≡ min (p + len) (u + m)) (el : l ≡ e - 2147483648) (et : to ≡ min l n) where
-  pub is-overlap : cond (ltb to from) (span 0 0) (span from to) ≡ cutOf (p - 2147483648) (p + len - 2147483648) c m n
-  is-overlap =
-      let gf : from ≡ max (p - 2147483648) (u - 2147483648) = ef ∙ ap (λ (k : ℕ). k - 2147483648) ea ∙ max-lowered p u 2147483648 in
-      let gl : l ≡ min (p + len - 2147483648) (u + m - 2147483648) = el ∙ ap (λ (k : ℕ). k - 2147483648) ee ∙ min-lowered (p + len) (u + m) 2147483648 in
-      let gt : to ≡ min (min (p + len - 2147483648) (u + m - 2147483648)) n = et ∙ ap (λ (k : ℕ). min k n) gl in
-      is-cut (p - 2147483648) (p + len - 2147483648) c m n u (u - 2147483648) (u + m - 2147483648) from to s eu refl refl gf gt
+max-last : (a b d : ℕ) → max (max a b) d ≡ max (max a d) b
+max-last a b d = omega arith
+
+min-last : (a b d : ℕ) → min (min a b) d ≡ min (min a d) b
+min-last a b d = omega arith
+
+min-twice : (a n : ℕ) → min a n ≡ min (min n a) n
+min-twice a n = omega arith
+
+-- the least signed number is added to both, and taken off again
+both-lifted : (p s z : ℕ) → p + z - s - z ≡ p - s
+both-lifted p s z = omega arith
+
+-- What `overlap`, `window` and `shown_in` answer: the largest start and the smallest end are found among lifted numbers and then lowered.
+-- u is the clip's start, lifted.
+module _ (c : ℤ) (m n u : ℕ) (r : Span) (s : SFits w32 c) (eu : u ≡ lifted (toZ w32 (ofZ w32 c))) where
+  is-cut : (lo end from to : ℕ) → from ≡ max lo (u - 2147483648) → to ≡ min (min end (u + m - 2147483648)) n → r ≡ inOrder from to → r ≡ cutOf lo end c m n
+  unfolding cutOf
+  is-cut lo end from to ef et er = rw (er, et, ef, lift-is c u s eu) refl
+
+  pub is-overlap : (p len from end : ℕ) → from ≡ max p u → end ≡ min (p + len) (u + m)
+      → r ≡ inOrder (from - 2147483648) (min (end - 2147483648) n) → r ≡ cutOf (p - 2147483648) (p + len - 2147483648) c m n
+  is-overlap p len from end ef ee er =
+      is-cut _ _ _ _ (rw ef (max-lowered p u 2147483648)) (ap (λ (k : ℕ). min k n) (rw ee (min-lowered (p + len) (u + m) 2147483648))) er
+
+  pub is-window : r ≡ inOrder (u - 2147483648) (min (u + m - 2147483648) n) → r ≡ cutOf 0 n c m n
+  is-window er = is-cut 0 n _ _ (omega arith) (min-twice (u + m - 2147483648) n) er
+
+  -- q is the start of the source's side, lifted twice
+  pub is-shown : (p s′ len side q a from b end : ℕ) → q ≡ p + 2147483648 → a ≡ max p u → from ≡ max a (q - s′)
+      → b ≡ min (p + len) (u + m) → end ≡ min b (q + side - s′) → r ≡ inOrder (from - 2147483648) (min (end - 2147483648) n)
+      → r ≡ cutOf (max (p - 2147483648) (p - s′)) (min (p + len - 2147483648) (p + side - s′)) c m n
+  is-shown p s′ len side q a from b end eq ea ef eb ee er = is-cut _ _ _ _ starts ends er
+    where
+      starts : from - 2147483648 ≡ max (max (p - 2147483648) (p - s′)) (u - 2147483648)
+      starts =
+          ap (λ (k : ℕ). k - 2147483648) ef ∙ max-lowered a (q - s′) 2147483648
+          ∙ ap₂ max (rw ea (max-lowered p u 2147483648)) (rw eq (both-lifted p s′ 2147483648)) ∙ max-last _ _ _
+
+      ends : min (end - 2147483648) n ≡ min (min (min (p + len - 2147483648) (p + side - s′)) (u + m - 2147483648)) n
+      ends =
+          let e : q + side ≡ p + side + 2147483648 = omega arith in
+          ap (λ (k : ℕ). min k n)
+          (ap (λ (k : ℕ). k - 2147483648) ee ∙ min-lowered b (q + side - s′) 2147483648
+          ∙ ap₂ min (rw eb (min-lowered (p + len) (u + m) 2147483648)) (rw e (both-lifted (p + side) s′ 2147483648)) ∙ min-last _ _ _)
 
 -- and what that is
 pub cut-of : (lo end : ℕ) (c : ℤ) (m n : ℕ) (r : Span) → SFits w32 c → r ≡ cutOf lo end c m n → Cut lo end c m n (r .from) (r .to)

@@ -11,7 +11,7 @@ use Rattle.canvas.specs.Plot.{Dye, over}
 use Rattle.canvas.specs.Call.{sourceColor, dots, brush}
 use Rattle.canvas.specs.Walk.{lowered}
 use Rattle.canvas.proofs.span.Lifts.{lift-lt, lowers}
-use Rattle.canvas.proofs.plot.Answers.{declines, first-of, first-sized, first-source, finishes}
+use Rattle.canvas.proofs.plot.Answers.{accepts, canvas-first, source-next, source-sized, declines, finishes}
 use Rattle.canvas.proofs.boxes.Boxes.{shown-hits, field-did}
 use Rattle.images.proofs.pictures.Overlays.{picture-spots, draws-over}
 use Rattle.canvas.proofs.span.Sources.{shown-is}
@@ -25,14 +25,17 @@ judge-requires c κs = search needs
 judge-source-requires : tie.Need-judge-source-requires
 judge-source-requires c κs = search needs
 
-or-else-requires : tie.Need-or-else-requires
-or-else-requires c κs = search needs
-
 enum-known-r : tie.Need-enum-known-r
 enum-known-r c = search needs
 
 enum-told : tie.Need-enum-told
 enum-told c = search needs
+
+enum-known-r-2 : tie.Need-enum-known-r-2
+enum-known-r-2 c = search needs
+
+enum-told-2 : tie.Need-enum-told-2
+enum-told-2 c = search needs
 
 lift-requires : tie.Need-lift-requires
 lift-requires c κs = search needs
@@ -48,33 +51,15 @@ lift-requires-4 c κs = search needs
 
 shown-in-requires : tie.Need-shown-in-requires
 shown-in-requires c κs =
-    let sx = c .before .before in
-    let dx = sx .before .before in
-    let sound = dx .before in
-    let first = sound .before .before in
-    let source = first .before in
-    let canvas = source .before in
-    let start = canvas .before .before .before in
-    let a = start .args in
-    let f = start .fits in
-    let s = first-sized (a .canvas) (a .bytes .now) (a .source) (a .image .now) _ _ _
-    (first .or-else .ensures) (canvas .judge .ensures) (source .judge-source .ensures) (sound .enum-told .given .1) in
-    (s .wide, (lift-lt (a .dx) _ (f .dx) (dx .lift .ensures), lift-lt (a .sx) _ (f .sx) (sx .lift3 .ensures)))
+    let dx = c .before .before .before .before in
+    let start = dx .before .before .before .before .before .before .before .before .before in
+    lift-lt (start .args .dx) _ (start .fits .dx) (dx .lift .ensures)
 
 shown-in-requires-2 : tie.Need-shown-in-requires-2
 shown-in-requires-2 c κs =
-    let sy = c .before .before .before in
-    let dy = sy .before .before in
-    let sound = dy .before .before in
-    let first = sound .before .before in
-    let source = first .before in
-    let canvas = source .before in
-    let start = canvas .before .before .before in
-    let a = start .args in
-    let f = start .fits in
-    let s = first-sized (a .canvas) (a .bytes .now) (a .source) (a .image .now) _ _ _
-    (first .or-else .ensures) (canvas .judge .ensures) (source .judge-source .ensures) (sound .enum-told .given .1) in
-    (s .high, (lift-lt (a .dy) _ (f .dy) (dy .lift2 .ensures), lift-lt (a .sy) _ (f .sy) (sy .lift4 .ensures)))
+    let dy = c .before .before .before .before .before in
+    let start = dy .before .before .before .before .before .before .before .before .before .before in
+    lift-lt (start .args .dy) _ (start .fits .dy) (dy .lift2 .ensures)
 
 draw-in-requires : tie.Need-draw-in-requires
 draw-in-requires c κs =
@@ -83,38 +68,42 @@ draw-in-requires c κs =
     let clip = across .before in
     let sy = clip .before in
     let sx = sy .before in
-    let sound = sx .before .before .before in
-    let first = sound .before .before in
-    let source = first .before in
-    let canvas = source .before in
+    let both = sx .before .before .before in
+    let source = both .before .before in
+    let sound = source .before in
+    let canvas = sound .before .before in
     let start = canvas .before .before .before in
     let a = start .args in
     let f = start .fits in
     let columns = shown-is _ _ _ _ (a .clip .x) _ _ _ (record { sfits = clip .struct-told .given .0 .1 }) (across .shown-in .ensures) in
     let rows = shown-is _ _ _ _ (a .clip .y) _ _ _ (record { sfits = clip .struct-told .given .1 .0 .1 }) (down .shown-in2 .ensures) in
-    let s = first-sized (a .canvas) (a .bytes .now) (a .source) (a .image .now) _ _ _
-    (first .or-else .ensures) (canvas .judge .ensures) (source .judge-source .ensures) (sound .enum-told .given .1) in
-    let t = first-source (a .canvas) (a .bytes .now) (a .source) (a .image .now) _ _ _
-    (first .or-else .ensures) (canvas .judge .ensures) (source .judge-source .ensures) (sound .enum-told .given .1) in
+    let s = accepts (a .canvas) (a .bytes .now) _ (canvas .judge .ensures) (sound .enum-told .given .1) in
+    let t = source-sized (a .source) (a .image .now) _ (source .judge-source .ensures) (both .enum-told2 .given .1) in
     let bx = lift-lt (a .sx) _ (f .sx) (sx .lift3 .ensures) in
     let by = lift-lt (a .sy) _ (f .sy) (sy .lift4 .ensures) in
     (s, (t, (columns .ordered, (rows .ordered, (columns .held, (rows .held, (columns .sourced, (rows .sourced, (bx, by)))))))))
 
 returns : tie.Need-returns
 returns c =
-    let first = c .before .before .before in
-    let source = first .before in
-    let canvas = source .before in
+    let canvas = c .before .before .before in
+    let a = canvas .before .before .before .args in
+    declines (a .canvas) (a .bytes .now) _ _ _ _ (canvas-first (a .canvas) (a .bytes .now) _ _ _ (canvas .judge .ensures) (c .before .r .given .1))
+
+returns-2 : tie.Need-returns-2
+returns-2 c =
+    let source = c .before .before .before in
+    let sound = source .before in
+    let canvas = sound .before .before in
     let a = canvas .before .before .before .args in
     declines (a .canvas) (a .bytes .now) _ _ _ _
-    (sym (first-of (a .canvas) (a .bytes .now) (a .source) (a .image .now) _ _ _ (first .or-else .ensures) (canvas .judge .ensures) (source .judge-source .ensures)) ∙ c .before .r .given .1)
+    (source-next (a .canvas) (a .bytes .now) _ _ _ (canvas .judge .ensures) (sound .enum-told .given .1) (source .judge-source .ensures) ∙ c .before .r2 .given .1)
 
 same-length : tie.Need-same-length
 same-length c = search needs
 
-returns-2 : tie.Need-returns-2
+returns-3 : tie.Need-returns-3
 unfolding dots
-returns-2 c =
+returns-3 c =
     let drawn = c .before .before in
     let down = drawn .before .before in
     let across = down .before .before in
@@ -123,10 +112,10 @@ returns-2 c =
     let sx = sy .before in
     let dy = sx .before in
     let dx = dy .before in
-    let sound = dx .before in
-    let first = sound .before .before in
-    let source = first .before in
-    let canvas = source .before in
+    let both = dx .before in
+    let source = both .before .before in
+    let sound = source .before in
+    let canvas = sound .before .before in
     let start = canvas .before .before .before in
     let a = start .args in
     let f = start .fits in
@@ -150,7 +139,7 @@ returns-2 c =
     _ _ _ _ _ _ (columns .sourced) (rows .sourced)) in
     rw (picture-spots (brush (a .canvas)) dye xs ys)
     (finishes (a .canvas) (a .bytes .now) (a .clip) (spots ink xs ys) _ (record { landed = 0 }) _ _
-    (sym (first-of (a .canvas) (a .bytes .now) (a .source) (a .image .now) _ _ _ (first .or-else .ensures) (canvas .judge .ensures) (source .judge-source .ensures)) ∙ sound .enum-told .given .1)
+    (source-next (a .canvas) (a .bytes .now) _ _ _ (canvas .judge .ensures) (sound .enum-told .given .1) (source .judge-source .ensures) ∙ both .enum-told2 .given .1)
     refl
     (field-did (a .canvas) (a .clip) (spots ink xs ys) ink
     (across .shown-in .result .from) (across .shown-in .result .to) (down .shown-in2 .result .from) (down .shown-in2 .result .to)
@@ -163,10 +152,11 @@ draw-spec =
     tie.close
     (tie.spec
     judge-requires
-    judge-source-requires
-    or-else-requires
     enum-known-r
     enum-told
+    judge-source-requires
+    enum-known-r-2
+    enum-told-2
     lift-requires
     lift-requires-2
     lift-requires-3
@@ -175,5 +165,6 @@ draw-spec =
     shown-in-requires-2
     draw-in-requires
     returns
+    returns-2
     same-length
-    returns-2)
+    returns-3)

@@ -23,47 +23,44 @@ arc-fault-requires c κs = search needs
 or-else-requires : tie.Need-or-else-requires
 or-else-requires c κs = search needs
 
-begin-requires : tie.Need-begin-requires
-begin-requires c κs = search needs
+enum-known-fault : tie.Need-enum-known-fault
+enum-known-fault c = search needs
 
-enum-known-r : tie.Need-enum-known-r
-enum-known-r c = search needs
+enum-told : tie.Need-enum-told
+enum-told c = search needs
 
-enum-known-ink : tie.Need-enum-known-ink
-enum-known-ink c = search needs
+plot-ink-requires : tie.Need-plot-ink-requires
+plot-ink-requires c κs = search needs
 
 pie-in-requires : tie.Need-pie-in-requires
 pie-in-requires c κs =
-    let o = c .before .before .before .before .before .before .before .before .before in
-    let or-else = c .before .before .before .before .before .or-else in
-    let judge = c .before .before .before .before .before .before .before .judge in
+    let o = c .before .before .before .before .before .before .before .before in
+    let or-else = c .before .before .before .before .or-else in
+    let judge = c .before .before .before .before .before .before .judge in
     let a = o .args in
     let f = o .fits in
-    let arc-fault = c .before .before .before .before .before .before .arc-fault in
-    let begin = c .before .before .before .before .begin in
-    let ink = c .before .before .ink in
-    let s = start-sized (a .canvas) (a .bytes .now) (arcFault (a .x) (a .y) (a .w) (a .h) (a .start) (a .arc)) (a .color) _ _
-    (first (or-else .ensures) (judge .ensures) (arc-of (a .x) (a .y) (a .w) (a .h) (a .start) (a .arc) _ (f .x) (f .y) (f .start) (f .arc) (arc-fault .ensures))) (begin .ensures)
-    _ (ink .given .1) in
+    let arc-fault = c .before .before .before .before .before .arc-fault in
+    let told = c .before .before .enum-told in
+    let s = start-sized (a .canvas) (a .bytes .now) (arcFault (a .x) (a .y) (a .w) (a .h) (a .start) (a .arc)) _
+    (first (or-else .ensures) (judge .ensures) (arc-of (a .x) (a .y) (a .w) (a .h) (a .start) (a .arc) _ (f .x) (f .y) (f .start) (f .arc) (arc-fault .ensures))) (told .given .1) in
     rw (toZ-ofZ w32 (a .x) (f .x), toZ-ofZ w32 (a .y) (f .y), toZ-ofZ w32 (a .start) (f .start), toZ-ofZ w32 (a .arc) (f .arc)) (
       ready-few s refl (inks-few _ _ (pie-le (a .canvas) (a .x) (a .y) (a .w) (a .h) (a .start) (a .arc) (s .wide) (s .high))),
-      arc-known (a .x) (a .y) (a .w) (a .h) (a .start) (a .arc) (start-own (a .canvas) (a .bytes .now) (arcFault (a .x) (a .y) (a .w) (a .h) (a .start) (a .arc)) (a .color) _ _
+      arc-known (a .x) (a .y) (a .w) (a .h) (a .start) (a .arc) (start-own (a .canvas) (a .bytes .now) (arcFault (a .x) (a .y) (a .w) (a .h) (a .start) (a .arc)) _
           (first (or-else .ensures) (judge .ensures) (arc-of (a .x) (a .y) (a .w) (a .h) (a .start) (a .arc) _ (f .x) (f .y) (f .start) (f .arc) (arc-fault .ensures)))
-          (begin .ensures) _ (ink .given .1)),
+          (told .given .1)),
     )
 
 returns : tie.Need-returns
 returns c =
-    let o = c .before .before .before .before .before .before .before .before in
-    let or-else = c .before .before .before .before .or-else in
-    let judge = c .before .before .before .before .before .before .judge in
-    let arc-fault = c .before .before .before .before .before .arc-fault in
-    let begin = c .before .before .before .begin in
+    let o = c .before .before .before .before .before .before .before in
+    let or-else = c .before .before .before .or-else in
+    let judge = c .before .before .before .before .before .judge in
+    let arc-fault = c .before .before .before .before .arc-fault in
     let a = o .args in
     let f = o .fits in
-    start-refuses (a .canvas) (a .bytes .now) (arcFault (a .x) (a .y) (a .w) (a .h) (a .start) (a .arc)) (a .color) _ _
+    start-refuses (a .canvas) (a .bytes .now) (arcFault (a .x) (a .y) (a .w) (a .h) (a .start) (a .arc)) _
     (first (or-else .ensures) (judge .ensures) (arc-of (a .x) (a .y) (a .w) (a .h) (a .start) (a .arc) _ (f .x) (f .y) (f .start) (f .arc) (arc-fault .ensures)))
-    (begin .ensures) _ _ _ (c .before .r .given .1)
+    _ _ _ (c .before .fault .given .1)
 
 same-length : tie.Need-same-length
 same-length c = search needs
@@ -71,18 +68,18 @@ same-length c = search needs
 returns-2 : tie.Need-returns-2
 unfolding dots
 returns-2 c =
-    let o = c .before .before .before .before .before .before .before .before .before .before .before .before in
-    let or-else = c .before .before .before .before .before .before .before .before .or-else in
-    let judge = c .before .before .before .before .before .before .before .before .before .before .judge in
-    let arc-fault = c .before .before .before .before .before .before .before .before .before .arc-fault in
-    let begin = c .before .before .before .before .before .before .before .begin in
-    let ink = c .before .before .before .before .before .ink in
-    let slice-known = c .before .before .before .before .before .before .before .before .before .before .before .slice-known in
+    let o = c .before .before .before .before .before .before .before .before .before .before .before in
+    let or-else = c .before .before .before .before .before .before .before .or-else in
+    let judge = c .before .before .before .before .before .before .before .before .before .judge in
+    let arc-fault = c .before .before .before .before .before .before .before .before .arc-fault in
+    let told = c .before .before .before .before .before .enum-told in
+    let ink = c .before .before .before .before .plot-ink in
+    let slice-known = c .before .before .before .before .before .before .before .before .before .before .slice-known in
     let f = o .fits in
-    start-draws (o .args .canvas) (o .args .bytes .now) (arcFault (o .args .x) (o .args .y) (o .args .w) (o .args .h) (o .args .start) (o .args .arc)) (o .args .color) _ _
+    start-draws (o .args .canvas) (o .args .bytes .now) (arcFault (o .args .x) (o .args .y) (o .args .w) (o .args .h) (o .args .start) (o .args .arc)) _
     (first (or-else .ensures) (judge .ensures) (arc-of (o .args .x) (o .args .y) (o .args .w) (o .args .h) (o .args .start) (o .args .arc) _ (f .x) (f .y) (f .start) (f .arc)
-    (arc-fault .ensures))) (begin .ensures) _
-    (ink .given .1) (o .args .clip) (pie (o .args .canvas) (o .args .x) (o .args .y) (o .args .w) (o .args .h) (o .args .start) (o .args .arc)) _ _
+    (arc-fault .ensures))) (told .given .1) (o .args .color) _ (ink .ensures) (o .args .clip)
+    (pie (o .args .canvas) (o .args .x) (o .args .y) (o .args .w) (o .args .h) (o .args .start) (o .args .arc)) _ _
     (record { byte = λ i. slice-known .given i .fits })
     (record {
       a = o .good .1 .1 .1 .1 .1 .1 .1 .1 .0 .1 .1 .0 .1;
@@ -100,9 +97,9 @@ fill-arc-spec =
     judge-requires
     arc-fault-requires
     or-else-requires
-    begin-requires
-    enum-known-r
-    enum-known-ink
+    enum-known-fault
+    enum-told
+    plot-ink-requires
     pie-in-requires
     returns
     same-length

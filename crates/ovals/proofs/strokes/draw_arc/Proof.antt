@@ -20,42 +20,41 @@ arc-fault-requires c κs = search needs
 or-else-requires : tie.Need-or-else-requires
 or-else-requires c κs = search needs
 
-begin-requires : tie.Need-begin-requires
-begin-requires c κs = search needs
+enum-known-fault : tie.Need-enum-known-fault
+enum-known-fault c = search needs
 
-enum-known-r : tie.Need-enum-known-r
-enum-known-r c = search needs
+enum-told : tie.Need-enum-told
+enum-told c = search needs
 
-enum-known-ink : tie.Need-enum-known-ink
-enum-known-ink c = search needs
+plot-ink-requires : tie.Need-plot-ink-requires
+plot-ink-requires c κs = search needs
 
 arc-in-requires : tie.Need-arc-in-requires
 arc-in-requires c κs =
-    let o = c .before .before .before .before .before .before .before .before .before in
-    let or-else = c .before .before .before .before .before .or-else in
-    let judge = c .before .before .before .before .before .before .before .judge in
-    let arc-fault = c .before .before .before .before .before .before .arc-fault in
-    let begin = c .before .before .before .before .begin in
+    let o = c .before .before .before .before .before .before .before .before in
+    let or-else = c .before .before .before .before .or-else in
+    let judge = c .before .before .before .before .before .before .judge in
+    let arc-fault = c .before .before .before .before .before .arc-fault in
+    let told = c .before .before .enum-told in
     let a = o .args in
     let f = o .fits in (
-      start-sized (a .canvas) (a .bytes .now) (arcFault (a .x) (a .y) (a .w) (a .h) (a .start) (a .arc)) (a .color) _ _
+      start-sized (a .canvas) (a .bytes .now) (arcFault (a .x) (a .y) (a .w) (a .h) (a .start) (a .arc)) _
           (first (or-else .ensures) (judge .ensures) (arc-of (a .x) (a .y) (a .w) (a .h) (a .start) (a .arc) _ (f .x) (f .y) (f .start) (f .arc) (arc-fault .ensures)))
-          (begin .ensures) _ (c .before .before .ink .given .1),
+          (told .given .1),
       omega arith,
     )
 
 returns : tie.Need-returns
 returns c =
-    let o = c .before .before .before .before .before .before .before .before in
-    let or-else = c .before .before .before .before .or-else in
-    let judge = c .before .before .before .before .before .before .judge in
-    let arc-fault = c .before .before .before .before .before .arc-fault in
-    let begin = c .before .before .before .begin in
+    let o = c .before .before .before .before .before .before .before in
+    let or-else = c .before .before .before .or-else in
+    let judge = c .before .before .before .before .before .judge in
+    let arc-fault = c .before .before .before .before .arc-fault in
     let a = o .args in
     let f = o .fits in
-    start-refuses (a .canvas) (a .bytes .now) (arcFault (a .x) (a .y) (a .w) (a .h) (a .start) (a .arc)) (a .color) _ _
+    start-refuses (a .canvas) (a .bytes .now) (arcFault (a .x) (a .y) (a .w) (a .h) (a .start) (a .arc)) _
     (first (or-else .ensures) (judge .ensures) (arc-of (a .x) (a .y) (a .w) (a .h) (a .start) (a .arc) _ (f .x) (f .y) (f .start) (f .arc) (arc-fault .ensures)))
-    (begin .ensures) _ _ _ (c .before .r .given .1)
+    _ _ _ (c .before .fault .given .1)
 
 same-length : tie.Need-same-length
 same-length c = search needs
@@ -63,13 +62,13 @@ same-length c = search needs
 returns-2 : tie.Need-returns-2
 unfolding dots
 returns-2 c =
-    let o = c .before .before .before .before .before .before .before .before .before .before .before .before in
-    let or-else = c .before .before .before .before .before .before .before .before .or-else in
-    let judge = c .before .before .before .before .before .before .before .before .before .before .judge in
-    let arc-fault = c .before .before .before .before .before .before .before .before .before .arc-fault in
-    let begin = c .before .before .before .before .before .before .before .begin in
-    let ink = c .before .before .before .before .before .ink in
-    let slice-known = c .before .before .before .before .before .before .before .before .before .before .before .slice-known in
+    let o = c .before .before .before .before .before .before .before .before .before .before .before in
+    let or-else = c .before .before .before .before .before .before .before .or-else in
+    let judge = c .before .before .before .before .before .before .before .before .before .judge in
+    let arc-fault = c .before .before .before .before .before .before .before .before .arc-fault in
+    let told = c .before .before .before .before .before .enum-told in
+    let ink = c .before .before .before .before .plot-ink in
+    let slice-known = c .before .before .before .before .before .before .before .before .before .before .slice-known in
     let f = o .fits in
     let g = o .good .1 .1 .1 .1 .1 .1 .1 .1 .0 .1 in
     start-draws (o .args .canvas)
@@ -77,9 +76,10 @@ returns-2 c =
     (arcFault (o .args .x)
     (o .args .y) (o .args .w)
     (o .args .h) (o .args .start)
-    (o .args .arc)) (o .args .color) _ _ (first (or-else .ensures) (judge .ensures)
-    (arc-of (o .args .x) (o .args .y) (o .args .w) (o .args .h) (o .args .start) (o .args .arc) _ (f .x) (f .y) (f .start) (f .arc) (arc-fault .ensures))) (begin
-    .ensures) _ (ink .given .1) (o .args .clip) (arc (o .args .canvas) (o .args .x) (o .args .y) (o .args .w) (o .args .h) (o .args .start) (o .args .arc)) _ _
+    (o .args .arc)) _ (first (or-else .ensures) (judge .ensures)
+    (arc-of (o .args .x) (o .args .y) (o .args .w) (o .args .h) (o .args .start) (o .args .arc) _ (f .x) (f .y) (f .start) (f .arc) (arc-fault .ensures)))
+    (told .given .1) (o .args .color) _ (ink .ensures) (o .args .clip)
+    (arc (o .args .canvas) (o .args .x) (o .args .y) (o .args .w) (o .args .h) (o .args .start) (o .args .arc)) _ _
     (record { byte = λ i. slice-known .given i .fits })
     (record { a = g .1 .0 .1; r = g .1 .1 .0 .1; g = g .1 .1 .1 .0 .1; b = g .1 .1 .1 .1 .0 .1 })
     (rw (
@@ -99,9 +99,9 @@ draw-arc-spec =
     judge-requires
     arc-fault-requires
     or-else-requires
-    begin-requires
-    enum-known-r
-    enum-known-ink
+    enum-known-fault
+    enum-told
+    plot-ink-requires
     arc-in-requires
     returns
     same-length
