@@ -1,6 +1,5 @@
 -- From the inner functions to the calls: what a sound canvas and a faulty one answer.
 use mathlib.Core.Path.{_≡_, refl, sym, ap, ap₂, _∙_}
-use mathlib.Core.Bool.{Bool}
 use mathlib.Core.List.{List, [], _∷_}
 use Prim.Native.Nat.{ℕ, _+_, _<_}
 use native.Mathlib.Nat.{zero-add}
@@ -8,7 +7,7 @@ use native.Mathlib.Omega.{arith}
 use lib.ListN.{length}
 use Rattle.words.specs.declared.Color.{Color}
 use Rattle.words.specs.declared.Ink.{Ink}
-use Rattle.words.specs.Format.{formatOf, range}
+use Rattle.words.specs.Format.{range}
 use Rattle.words.specs.Ink.{plotInk, inked}
 use Rattle.words.proofs.Laws.{Channels, ink-is}
 use Rattle.words.proofs.Stamps.{plot-keeps}

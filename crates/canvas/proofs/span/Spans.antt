@@ -257,7 +257,7 @@ module _ (c : ℤ) (m n u : ℕ) (r : Span) (s : SFits w32 c) (eu : u ≡ lifted
   pub is-window : r ≡ inOrder (u - 2147483648) (min (u + m - 2147483648) n) → r ≡ cutOf 0 n c m n
   is-window er = is-cut 0 n _ _ (omega arith) (min-twice (u + m - 2147483648) n) er
 
-  -- q is the start of the source's side, lifted twice
+  -- q is the span's start, lifted twice
   pub is-shown : (p s′ len side q a from b end : ℕ) → q ≡ p + 2147483648 → a ≡ max p u → from ≡ max a (q - s′)
       → b ≡ min (p + len) (u + m) → end ≡ min b (q + side - s′) → r ≡ inOrder (from - 2147483648) (min (end - 2147483648) n)
       → r ≡ cutOf (max (p - 2147483648) (p - s′)) (min (p + len - 2147483648) (p + side - s′)) c m n
