@@ -7,13 +7,15 @@
 //! twice, on rows without tails and with them; `tails` prints it alone.
 //!
 //! `passes CALL rust|ours|tails FORMAT XOR K` makes a call K times on one side and prints nothing, for instructions to be
-//! counted; `shapes` prints the names of the lines and curves that are built in, with the plots that land.
+//! counted; `shapes` prints the names of the lines and curves that are built in, with the plots that land. `edges` makes calls
+//! that draw next to nothing or are refused, and prints what they are.
 
 extern crate alloc;
 
 #[allow(warnings)]
 #[path = "../oracle/src/wie.rs"]
 mod canvas;
+mod edges;
 #[allow(dead_code)]
 #[path = "../oracle/src/exported.rs"]
 mod exported;
@@ -316,6 +318,9 @@ fn main() {
     }
     if words == ["tails"] {
         return tails();
+    }
+    if words == ["edges"] {
+        return edges::edges();
     }
     println!("| {WIDTH} by {HEIGHT} | format | XOR | how | Rust, ns a pixel | ours, ns a pixel | ours / Rust |");
     println!("|---|---|---|---|---|---|---|");

@@ -3,7 +3,7 @@ ghost use mathlib.Core.Path.{_≡_};
 ghost use mathlib.Core.Bool.{true, false};
 ghost use Prim.Native.Nat.{_%_, _<_};
 ghost use Rattle.words.specs.Format.{formatOf, rgb332, rgb565, argb, abgr};
-ghost use Rattle.words.specs.Word.{toColor, level5, level6};
+ghost use Rattle.words.specs.Word.{toColor};
 ghost use Rattle.words.specs.Ink.{plotInk};
 ghost use Rattle.blending.specs.Blend.{part, scaled, factor, others, blendWord, setting};
 ghost use Rattle.blending.specs.Inner.{mixed, Laid};
@@ -17,6 +17,8 @@ mod store;
 
 use words::Color;
 use words::Ink;
+use words::level5_of;
+use words::level6_of;
 
 pub(crate) fn part_of(a: u8, c: u8) -> u8
     ensures { λ r. ⌜ r ≡ part a c ⌝ }
@@ -100,28 +102,13 @@ pub fn blend332(source: u32, raw: u32) -> u32
     (m.r * 7 + 127) / 255 * 32 + (m.g * 7 + 127) / 255 * 4 + (m.b * 3 + 127) / 255
 }
 
-// The levels of 5 and of 6 bits, without a table, which would keep a loop from taking several pixels at a time.
-pub(crate) fn level5_of(v: u32) -> u32
-    requires { ⌜ v < 32 ⌝ }
-    ensures { λ r. ⌜ r ≡ level5 v ⌝ }
-{
-    (v * 527 + 23) / 64
-}
-
-pub(crate) fn level6_of(v: u32) -> u32
-    requires { ⌜ v < 64 ⌝ }
-    ensures { λ r. ⌜ r ≡ level6 v ⌝ }
-{
-    (v * 259 + 33) / 64
-}
-
 // An ARGB word over a word of 565.
 pub fn blend565(source: u32, raw: u32) -> u32
     ensures { λ r. ⌜ r ≡ blendWord rgb565 false (toColor argb source) raw ⌝ }
 {
-    let r = level5_of(raw / 2048 % 32);
-    let g = level6_of(raw / 32 % 64);
-    let b = level5_of(raw % 32);
+    let r = level5_of(raw / 2048);
+    let g = level6_of(raw / 32);
+    let b = level5_of(raw);
     let m = lay(source, r, g, b);
     m.r / 8 * 2048 + m.g / 4 * 32 + m.b / 8
 }

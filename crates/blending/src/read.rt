@@ -3,8 +3,8 @@ ghost use mathlib.Core.Path.{_≡_};
 ghost use Prim.Native.Nat.{_≤_};
 ghost use Rattle.words.specs.Format.{formatOf, rgb332, rgb565, rgb8, argb, abgr};
 ghost use Rattle.words.specs.Word.{fromColor, toColor};
-use crate::level5_of;
-use crate::level6_of;
+use words::level5_of;
+use words::level6_of;
 
 fn argb332(raw: u32) -> u32
     ensures { λ r. ⌜ r ≡ fromColor argb (toColor rgb332 raw) ⌝ }
@@ -15,9 +15,9 @@ fn argb332(raw: u32) -> u32
 fn argb565(raw: u32) -> u32
     ensures { λ r. ⌜ r ≡ fromColor argb (toColor rgb565 raw) ⌝ }
 {
-    let r = level5_of(raw / 2048 % 32);
-    let g = level6_of(raw / 32 % 64);
-    let b = level5_of(raw % 32);
+    let r = level5_of(raw / 2048);
+    let g = level6_of(raw / 32);
+    let b = level5_of(raw);
     4278190080 + r * 65536 + g * 256 + b
 }
 

@@ -1,2 +1,3 @@
 -- What the faults of a canvas mean.
+pub mod Limits
 pub mod Verdicts

@@ -1,5 +1,12 @@
 // Inversion, which ignores XOR.
 ghost use mathlib.Core.Path.{_≡_};
+ghost use Prim.Native.Nat.{_<_};
+ghost use Rattle.words.specs.Ink.{inked};
+ghost use Rattle.words.specs.Invert.{invertInk};
+ghost use Rattle.pixels.specs.Bytes.{form, Sized};
+ghost use Rattle.canvas.specs.Plot.{inks};
+ghost use Rattle.canvas.specs.Boxes.{fill};
+ghost use Rattle.canvas.specs.Walk.{work, lowered, Did};
 ghost use Rattle.canvas.specs.Call.{invertRect, leaves, call};
 use crate::Clip;
 use crate::Drawn;
@@ -9,6 +16,22 @@ use crate::faults::Verdict;
 use crate::faults::judge;
 use crate::span::lift;
 use pixels::Canvas;
+
+// The plots of an inverted box with a lifted corner. What XOR is, is not handed on: a call that is refused then never asks.
+fn invert_in(canvas: Canvas, b: &mut [u8], p: u64, q: u64, w: u32, h: u32, clip: Clip) -> Tally
+    requires { ⌜ (Sized canvas (now b)) × ((p < 17179869184) × (q < 17179869184)) ⌝ }
+    ensures { λ r. ⌜ Did canvas clip (inks (inked (invertInk (form canvas))) (fill canvas (lowered p) (lowered q) w h)) (work (now (b .entry)) (record { landed = 0 })) (work (now (b .exit)) r) ⌝ }
+{
+    let plain = Canvas {
+        format: canvas.format,
+        width: canvas.width,
+        height: canvas.height,
+        row: canvas.row,
+        xor: false,
+    };
+    let ink = words::invert_ink(canvas.format);
+    fill_in(plain, b, p, q, w, h, ink, clip, Tally { landed: 0 })
+}
 
 // The colours of a box, each to its complement.
 pub fn invert_rect(
@@ -25,11 +48,9 @@ pub fn invert_rect(
     match judge(canvas, bytes.len()) {
         Verdict::Faulty(r) => Drawn::Refused(r),
         Verdict::Sound => {
-            let ink = words::invert_ink(canvas.format);
             let p = lift(x);
             let q = lift(y);
-            let t = fill_in(canvas, bytes, p, q, w, h, ink, clip, Tally { landed: 0 });
-            Drawn::Done(t)
+            Drawn::Done(invert_in(canvas, bytes, p, q, w, h, clip))
         }
     }
 }

@@ -1,7 +1,9 @@
-// Which canvases are refused: one fault a function, asked in the order of the refusals.
+// Which canvases are refused.
 ghost use mathlib.Core.Path.{_≡_};
-ghost use Rattle.pixels.specs.Bytes.{Bounded};
-ghost use Rattle.canvas.specs.Faults.{formatFault, sizeFault, rowFault, lengthFault, orElse, verdict};
+ghost use mathlib.Core.Bool.{_||_};
+ghost use Prim.Native.Nat.{_≤_};
+ghost use lib.Dec.{ltb};
+ghost use Rattle.canvas.specs.Faults.{orElse, verdict};
 use crate::Refusal;
 use pixels::Canvas;
 
@@ -20,64 +22,43 @@ pub fn or_else(f: Verdict, d: Verdict) -> Verdict
     }
 }
 
-fn format_fault(canvas: Canvas) -> Verdict
-    ensures { λ r. ⌜ r ≡ formatFault canvas ⌝ }
+// Whether one of two numbers is above 32,767: then what has the bits of both is.
+fn is_large(a: u32, b: u32) -> bool
+    ensures { λ r. ⌜ r ≡ (ltb 32767 a || ltb 32767 b) ⌝ }
+{
+    32767 < (a | b)
+}
+
+// Whether the row is below the width or above 32,767; below the width the tail wraps around.
+fn is_off(row: u32, width: u32) -> bool
+    requires { ⌜ width ≤ 32767 ⌝ }
+    ensures { λ r. ⌜ r ≡ (ltb row width || ltb 32767 row) ⌝ }
+{
+    is_large(row, std::num::wrapping_sub_u32(row, width))
+}
+
+// The first fault of a canvas with so many bytes. The length is asked before the row, and the row is named where both
+// are at fault.
+pub fn judge(canvas: Canvas, len: usize) -> Verdict
+    ensures { λ r. ⌜ r ≡ verdict canvas len ⌝ }
 {
     if 4 < canvas.format {
         return Verdict::Faulty(Refusal::Format);
     }
-    Verdict::Sound
-}
-
-fn size_fault(canvas: Canvas) -> Verdict
-    ensures { λ r. ⌜ r ≡ sizeFault canvas ⌝ }
-{
-    if 32767 < canvas.width {
+    if is_large(canvas.width, canvas.height) {
         return Verdict::Faulty(Refusal::Size);
     }
-    if 32767 < canvas.height {
-        return Verdict::Faulty(Refusal::Size);
+    if !pixels::bytes::is_whole(canvas, len) {
+        if canvas.row == canvas.width {
+            return Verdict::Faulty(Refusal::Length);
+        }
+        if is_off(canvas.row, canvas.width) {
+            return Verdict::Faulty(Refusal::Row);
+        }
+        return Verdict::Faulty(Refusal::Length);
     }
-    Verdict::Sound
-}
-
-fn row_fault(canvas: Canvas) -> Verdict
-    ensures { λ r. ⌜ r ≡ rowFault canvas ⌝ }
-{
-    if canvas.row < canvas.width {
-        return Verdict::Faulty(Refusal::Row);
-    }
-    if 32767 < canvas.row {
+    if is_off(canvas.row, canvas.width) {
         return Verdict::Faulty(Refusal::Row);
     }
     Verdict::Sound
-}
-
-fn length_fault(canvas: Canvas, len: usize) -> Verdict
-    requires { ⌜ Bounded canvas ⌝ }
-    ensures { λ r. ⌜ r ≡ lengthFault canvas len ⌝ }
-{
-    if pixels::bytes::is_whole(canvas, len) {
-        return Verdict::Sound;
-    }
-    Verdict::Faulty(Refusal::Length)
-}
-
-// The first fault of a canvas with so many bytes.
-pub fn judge(canvas: Canvas, len: usize) -> Verdict
-    ensures { λ r. ⌜ r ≡ verdict canvas len ⌝ }
-{
-    let f = format_fault(canvas);
-    let Verdict::Sound = f else {
-        return f;
-    };
-    let s = size_fault(canvas);
-    let Verdict::Sound = s else {
-        return s;
-    };
-    let t = row_fault(canvas);
-    let Verdict::Sound = t else {
-        return t;
-    };
-    length_fault(canvas, len)
 }

@@ -103,7 +103,7 @@ fn in_order(from: u64, to: u64) -> Span
 }
 
 // The places from one lifted number up to another, on a canvas's side of n pixels.
-fn on_canvas(from: u64, end: u64, n: u32) -> Span
+fn side_between(from: u64, end: u64, n: u32) -> Span
     ensures { λ r. ⌜ r ≡ inOrder (from - 2147483648) (min (end - 2147483648) n) ⌝ }
 {
     let to = less(end, 2147483648);
@@ -117,7 +117,7 @@ pub fn overlap(p: u64, len: u32, c: i32, m: u32, n: u32) -> Span
 {
     let u = lift(c);
     let end = least(p + len as u64, u + m as u64);
-    on_canvas(most(p, u), end, n)
+    side_between(most(p, u), end, n)
 }
 
 // A canvas's side of n pixels inside the clip's span of m from c.
@@ -125,7 +125,7 @@ pub fn window(c: i32, m: u32, n: u32) -> Span
     ensures { λ r. ⌜ r ≡ cutOf 0 n c m n ⌝ }
 {
     let u = lift(c);
-    on_canvas(u, u + m as u64, n)
+    side_between(u, u + m as u64, n)
 }
 
 // The part of a canvas's side of n pixels that lies in the span of len from p and in the clip's, and whose source from s
@@ -138,7 +138,7 @@ pub fn shown_in(p: u64, s: u64, len: u32, m: u32, c: i32, k: u32, n: u32) -> Spa
     let q = p + 2147483648;
     let from = most(most(p, u), less(q, s));
     let end = least(p + len as u64, u + k as u64);
-    on_canvas(from, least(end, less(q + m as u64, s)), n)
+    side_between(from, least(end, less(q + m as u64, s)), n)
 }
 
 pub(crate) fn larger_of(a: i32, b: i32) -> i32

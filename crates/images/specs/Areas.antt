@@ -1,6 +1,6 @@
 -- Area copy: "`copy_area` and `invert_rect` ignore XOR."; a copy is no drawing that a second one takes away.
 -- "Both clear the top byte of Rgb8 pixels they write", since they go through the colour.
-use mathlib.Core.List.{List}
+use mathlib.Core.List.{List, [], _∷_}
 use Prim.Native.Nat.{ℕ}
 use lib.IntN.{ℤ, natAbs}
 use lib.ListN.{length}
@@ -21,3 +21,7 @@ unfoldable pub copyArea : Canvas → ℤ → ℤ → ℤ → ℤ → ℕ → ℕ
 copyArea v dx dy sx sy w h c b =
     drawing (verdict v (length b)) v c
     (spots (copied v b dx dy sx sy) (shown dx sx w (v .width) (v .width)) (shown dy sy h (v .height) (v .height))) b
+
+-- An outcome, and its count in a record of one number.
+abbrev pub counted : Outcome → Outcome × List ℕ
+counted o = (o, o .count ∷ [])

@@ -1,16 +1,15 @@
 // Area copy without a second buffer: chunk by chunk, in the direction in which no pixel is written before it is read.
 ghost use mathlib.Core.Path.{_≡_};
 ghost use mathlib.Core.Bool.{cond};
-ghost use Prim.Native.Nat.{_+_, _-_, _*_, _≤_, _<_, min};
+ghost use Prim.Native.Nat.{_+_, _-_, _≤_, _<_, min};
 ghost use lib.ListN.{length};
 ghost use Rattle.words.specs.Format.{formatOf, rgb8};
 ghost use Rattle.pixels.specs.Bytes.{Sized};
 ghost use Rattle.pixels.specs.Hits.{paint};
 ghost use Rattle.canvas.specs.Call.{leaves};
-ghost use Rattle.images.specs.Areas.{copyArea};
+ghost use Rattle.images.specs.Areas.{copyArea, counted};
 ghost use Rattle.pixels.specs.Rows.{run, marks, field};
-ghost use Rattle.images.specs.Chunks.{SeenAs, shifted};
-ghost use Rattle.canvas.specs.Walk.{Sourced};
+ghost use Rattle.images.specs.Chunks.{SeenAs, Copying, shifted};
 use canvas::Clip;
 use canvas::Drawn;
 use canvas::Tally;
@@ -123,24 +122,56 @@ fn copy_box(canvas: Canvas, b: &mut [u8], xs: Span, ys: Span, sx: usize, sy: usi
     }
 }
 
-// The copy of what is shown, if anything is, and how many pixels are written.
-fn copy_in(canvas: Canvas, b: &mut [u8], xs: Span, ys: Span, p: u64, q: u64, u: u64, v: u64) -> u64
-    requires { ⌜ (Sized canvas (now b)) × ((xs .from ≤ xs .to) × ((ys .from ≤ ys .to) × ((xs .to ≤ canvas .width) × ((ys .to ≤ canvas .height) × ((Sourced p u (canvas .width) (xs .from) (xs .to)) × ((Sourced q v (canvas .height) (ys .from) (ys .to)) × ((u < 4294967296) × (v < 4294967296)))))))) ⌝ }
-    ensures { λ r. ⌜ (now (b .exit) ≡ paint canvas (field (shifted canvas (now (b .entry)) (xs .from) (ys .from) (xs .from + u - p) (ys .from + v - q)) (run (xs .from) (xs .to - xs .from)) (run (ys .from) (ys .to - ys .from))) (now (b .entry))) × (r ≡ (ys .to - ys .from) * (xs .to - xs .from)) ⌝ }
+// The copy of what is shown, n pixels.
+fn copy_in(canvas: Canvas, b: &mut [u8], xs: Span, ys: Span, n: u64, p: u64, q: u64, u: u64, v: u64)
+    requires { ⌜ (Sized canvas (now b)) × (Copying canvas xs ys n p q u v) ⌝ }
+    ensures { λ _. ⌜ now (b .exit) ≡ paint canvas (field (shifted canvas (now (b .entry)) (xs .from) (ys .from) (xs .from + u - p) (ys .from + v - q)) (run (xs .from) (xs .to - xs .from)) (run (ys .from) (ys .to - ys .from))) (now (b .entry)) ⌝ }
 {
-    if xs.from == xs.to {
-        return 0;
-    }
-    if ys.from == ys.to {
-        return 0;
+    if n == 0 {
+        return;
     }
     let sx = xs.from as u64 + u - p;
     let sy = ys.from as u64 + v - q;
     copy_box(canvas, b, xs, ys, sx as usize, sy as usize);
-    ((ys.to - ys.from) * (xs.to - xs.from)) as u64
 }
 
-// The pixels of one box, in the place of those of another.
+// The pixels of one box, in the place of those of another. The count is written before they are: a call that is refused then
+// has a count of its own to write, and no place in common with one that is accepted.
+pub fn copy_counted(
+    canvas: Canvas,
+    bytes: &mut [u8],
+    dx: i32,
+    dy: i32,
+    sx: i32,
+    sy: i32,
+    w: u32,
+    h: u32,
+    clip: Clip,
+    count: &mut [u64; 1],
+) -> Drawn
+    ensures { λ r. ⌜ (leaves r (now (bytes .exit)), now (count .exit)) ≡ counted (copyArea canvas dx dy sx sy w h clip (now (bytes .entry))) ⌝ }
+{
+    match judge(canvas, bytes.len()) {
+        Verdict::Faulty(r) => {
+            *count = [0];
+            Drawn::Refused(r)
+        }
+        Verdict::Sound => {
+            let p = lift(dx);
+            let u = lift(sx);
+            let xs = shown_in(p, u, w, canvas.width, clip.x, clip.width, canvas.width);
+            let q = lift(dy);
+            let v = lift(sy);
+            let ys = shown_in(q, v, h, canvas.height, clip.y, clip.height, canvas.height);
+            let n = ((ys.to - ys.from) * (xs.to - xs.from)) as u64;
+            *count = [n];
+            copy_in(canvas, bytes, xs, ys, n, p, q, u, v);
+            Drawn::Done(Tally { landed: n })
+        }
+    }
+}
+
+// The same with no place for the count.
 pub fn copy_area(
     canvas: Canvas,
     bytes: &mut [u8],
@@ -154,17 +185,6 @@ pub fn copy_area(
 ) -> Drawn
     ensures { λ r. ⌜ leaves r (now (bytes .exit)) ≡ copyArea canvas dx dy sx sy w h clip (now (bytes .entry)) ⌝ }
 {
-    match judge(canvas, bytes.len()) {
-        Verdict::Faulty(r) => Drawn::Refused(r),
-        Verdict::Sound => {
-            let p = lift(dx);
-            let q = lift(dy);
-            let u = lift(sx);
-            let v = lift(sy);
-            let xs = shown_in(p, u, w, canvas.width, clip.x, clip.width, canvas.width);
-            let ys = shown_in(q, v, h, canvas.height, clip.y, clip.height, canvas.height);
-            let n = copy_in(canvas, bytes, xs, ys, p, q, u, v);
-            Drawn::Done(Tally { landed: n })
-        }
-    }
+    let mut count = [0u64];
+    copy_counted(canvas, bytes, dx, dy, sx, sy, w, h, clip, &mut count)
 }

@@ -3,4 +3,5 @@ mod copy;
 mod pictures;
 
 pub use copy::copy_area;
+pub use copy::copy_counted;
 pub use pictures::draw;

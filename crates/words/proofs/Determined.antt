@@ -9,6 +9,8 @@ use Rattle.words.proofs.levels6.Reads as levels6
 use Rattle.words.proofs.colors332.Reads as colors332
 use Rattle.words.proofs.read332.Reads as read332
 use Rattle.words.proofs.read565.Reads as read565
+use Rattle.words.proofs.level5_of.Reads as level5-of
+use Rattle.words.proofs.level6_of.Reads as level6-of
 use Rattle.words.proofs.xor_ink.Reads as xor-ink
 use Rattle.words.proofs.plot_ink.Reads as plot-ink
 use Rattle.words.proofs.invert_ink.Reads as invert-ink
@@ -39,6 +41,12 @@ read332-determined κs a s s' r r' p q = p ∙ sym q
 
 read565-determined : (κs : _) (a : _) (s s' : _) (r r' : _) → read565.Post κs a r s → read565.Post κs a r' s' → r ≡ r'
 read565-determined κs a s s' r r' p q = p ∙ sym q
+
+level5-of-determined : (κs : _) (a : _) (s s' : _) (r r' : _) → level5-of.Post κs a r s → level5-of.Post κs a r' s' → r ≡ r'
+level5-of-determined κs a s s' r r' p q = p ∙ sym q
+
+level6-of-determined : (κs : _) (a : _) (s s' : _) (r r' : _) → level6-of.Post κs a r s → level6-of.Post κs a r' s' → r ≡ r'
+level6-of-determined κs a s s' r r' p q = p ∙ sym q
 
 xor-ink-determined : (κs : _) (a : _) (s s' : _) (r r' : _) → xor-ink.Post κs a r s → xor-ink.Post κs a r' s' → r ≡ r'
 xor-ink-determined κs a s s' r r' p q = p ∙ sym q

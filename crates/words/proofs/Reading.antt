@@ -23,11 +23,11 @@ field6 : (v : ℕ) → v < 64 → level6 v / 4 ≡ v
 unfolding level6
 field6 v l = omega arith
 
-byte5 : (v : ℕ) → v < 32 → level5 v < 256
+pub byte5 : (v : ℕ) → v < 32 → level5 v < 256
 unfolding level5
 byte5 v l = omega arith
 
-byte6 : (v : ℕ) → v < 64 → level6 v < 256
+pub byte6 : (v : ℕ) → v < 64 → level6 v < 256
 unfolding level6
 byte6 v l = omega arith
 

@@ -1,8 +1,8 @@
 // The words of a pixel: colours, storing, reading and XOR by format number.
 ghost use mathlib.Core.Path.{_≡_};
-ghost use Prim.Native.Nat.{_+_, _<_};
+ghost use Prim.Native.Nat.{_+_, _%_, _<_};
 ghost use Rattle.words.specs.Format.{formatOf, bytesPerPixel, rgb332, rgb565, rgb8, argb, abgr};
-ghost use Rattle.words.specs.Word.{fromColor, toColor};
+ghost use Rattle.words.specs.Word.{fromColor, toColor, level5, level6};
 ghost use Rattle.words.specs.Table.{fives, sixes, back332, through332, through565};
 ghost use Rattle.words.specs.Ink.{bare, ink, inked, xorInk, plotInk};
 ghost use Rattle.words.specs.Invert.{invertInk};
@@ -157,16 +157,32 @@ pub fn read565(raw: u32, fives: &[u8; 32], sixes: &[u8; 64]) -> Color
 fn color332(raw: u32) -> Color
     ensures { λ r. ⌜ r ≡ toColor rgb332 raw ⌝ }
 {
-    let table = colors332();
-    read332(raw, &table)
+    let r = (raw / 32 % 8 * 36) as u8;
+    let g = (raw / 4 % 8 * 36) as u8;
+    let b = (raw % 4 * 85) as u8;
+    Color { a: 255, r, g, b }
+}
+
+// The level of the low 5 bits, and of the low 6, without a table, which would keep a loop from taking several pixels at a time.
+pub fn level5_of(v: u32) -> u32
+    ensures { λ r. ⌜ r ≡ level5 (v % 32) ⌝ }
+{
+    (v % 32 * 527 + 23) / 64
+}
+
+pub fn level6_of(v: u32) -> u32
+    ensures { λ r. ⌜ r ≡ level6 (v % 64) ⌝ }
+{
+    (v % 64 * 259 + 33) / 64
 }
 
 fn color565(raw: u32) -> Color
     ensures { λ r. ⌜ r ≡ toColor rgb565 raw ⌝ }
 {
-    let fives = levels5();
-    let sixes = levels6();
-    read565(raw, &fives, &sixes)
+    let r = level5_of(raw / 2048) as u8;
+    let g = level6_of(raw / 32) as u8;
+    let b = level5_of(raw) as u8;
+    Color { a: 255, r, g, b }
 }
 
 // The colour that a word is read as.

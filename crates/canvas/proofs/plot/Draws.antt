@@ -1,5 +1,6 @@
 -- Plots one after the other.
 use mathlib.Core.Path.{_≡_, refl, sym, ap, _∙_}
+use mathlib.Core.Bool.{Bool}
 use mathlib.Core.List.{List, [], _∷_, _++_}
 use Prim.Native.Nat.{ℕ, suc, _+_, _-_, _≤_, _<_}
 use native.Mathlib.Omega.{arith}
@@ -7,8 +8,9 @@ use lib.ListN.{length}
 use Rattle.pixels.specs.declared.Canvas.{Canvas}
 use Rattle.canvas.specs.declared.Clip.{Clip}
 use Rattle.canvas.specs.declared.Tally.{Tally}
-use Rattle.pixels.specs.Bytes.{Sized}
-use Rattle.canvas.specs.Plot.{Plot, Fate, landed, outside, clipped, fate, hitOf}
+use Rattle.pixels.specs.Bytes.{pitch, pixel, extent, loadAt, storeAt, Sized}
+use Rattle.pixels.specs.Hits.{touch}
+use Rattle.canvas.specs.Plot.{Plot, Fate, landed, outside, clipped, onCanvas, fate, hitOf}
 use Rattle.canvas.specs.Walk.{plus, Work, work, act, drawn, Fits, Ready, Did}
 use Rattle.pixels.proofs.bytes.Pixels.{sized-length}
 use Rattle.pixels.proofs.Hits.{touch-length}
@@ -61,6 +63,30 @@ did-append {v} {c} ps qs {w} d e = record { same = e .same ∙ ap (drawn v c qs)
 
 pub did-length : {v : Canvas} {c : Clip} {ps : List Plot} {w w′ : Work} → Did v c ps w w′ → length (w′ .bytes) ≡ length (w .bytes)
 did-length {v} {c} {ps} {w} d = ap (λ (x : Work). length (x .bytes)) (d .same) ∙ drawn-length v c ps w
+
+-- ---- whether XOR is on says nothing of where plots land and of the words there
+
+abbrev pub xored : Canvas → Bool → Canvas
+xored v t = record { format = v .format; width = v .width; height = v .height; row = v .row; xor = t }
+
+act-xored : (v : Canvas) (t : Bool) (p : Plot) (f : Fate) (w : Work) → act (xored v t) p f w ≡ act v p f w
+unfolding touch loadAt storeAt pixel pitch
+act-xored v t p landed w = refl
+act-xored v t p outside w = refl
+act-xored v t p clipped w = refl
+
+drawn-xored : (v : Canvas) (t : Bool) (c : Clip) (ps : List Plot) (w : Work) → drawn (xored v t) c ps w ≡ drawn v c ps w
+unfolding drawn fate onCanvas
+drawn-xored v t c [] w = refl
+drawn-xored v t c (p ∷ ps) w =
+    ap (drawn (xored v t) c ps) (act-xored v t p (fate v c p) w) ∙ drawn-xored v t c ps (act v p (fate v c p) w)
+
+pub did-xored : {v : Canvas} (t : Bool) {c : Clip} {ps : List Plot} {w w′ : Work} → Did (xored v t) c ps w w′ → Did v c ps w w′
+did-xored {v} t {c} {ps} {w} d = record { same = d .same ∙ drawn-xored v t c ps w }
+
+pub sized-xored : {v : Canvas} (t : Bool) {b : List ℕ} → Sized v b → Sized (xored v t) b
+unfolding extent pitch
+sized-xored t s = record { known = s .known; wide = s .wide; high = s .high; rows = s .rows; tails = s .tails; long = s .long }
 
 -- ---- what the callees may count on
 

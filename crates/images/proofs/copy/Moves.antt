@@ -2,8 +2,9 @@
 use mathlib.Core.Path.{_≡_, refl, sym, ap, ap₂, _∙_}
 use mathlib.Core.Bool.{Bool, true, false, cond}
 use mathlib.Core.List.{List, [], _∷_, append-nil, flatMap}
-use Prim.Native.Nat.{ℕ, zero, suc, _+_, _-_, _%_, _≤_, _<_}
+use Prim.Native.Nat.{ℕ, zero, suc, _+_, _-_, _*_, _%_, _≤_, _<_}
 use native.Mathlib.Omega.{arith}
+use native.Mathlib.Nat.{mul-zero, zero-mul, mul-pos}
 use native.Mathlib.Decide.{ℕ-discrete, decLe}
 use borrow.Author.Tests.{le-leb, lt-leb}
 use lib.Dec.{leb}
@@ -13,13 +14,16 @@ use Rattle.words.specs.Format.{Format, rgb332, rgb565, rgb8, argb, abgr, none, 
 use Rattle.words.specs.Word.{fromColor, toColor, seen}
 use Rattle.words.proofs.Reading.{read-store}
 use Rattle.pixels.specs.declared.Canvas.{Canvas}
+use Rattle.pixels.specs.declared.rows.Span.{Span}
 use Rattle.pixels.specs.Bytes.{form, loadAt}
 use Rattle.pixels.specs.Hits.{Hit, paint}
 use Rattle.pixels.specs.Rows.{run, mark, marks, field, laid}
 use Rattle.pixels.proofs.chunks.Chunks.{Taken}
+use Rattle.canvas.specs.declared.Drawn.{Drawn}
+use Rattle.canvas.specs.Call.{Outcome, countOf, leaves}
 use Rattle.canvas.specs.Walk.{lowered, Sourced}
-use Rattle.images.specs.Chunks.{SeenAs, shifted}
-use Rattle.images.specs.Areas.{copied}
+use Rattle.images.specs.Chunks.{SeenAs, Copying, shifted}
+use Rattle.images.specs.Areas.{copied, counted}
 use Rattle.canvas.proofs.span.Sources.{source-at}
 use Rattle.pixels.proofs.bytes.Cells.{Bytes}
 use Rattle.pixels.proofs.bytes.Pixels.{load-lt}
@@ -309,12 +313,30 @@ pub none-down : (f : ℕ → ℕ → ℕ → ℕ) (y0 y1 : ℕ) (xs : List ℕ) 
 unfolding flatMap run
 none-down f y0 y1 xs e = let z : y1 - y0 ≡ 0 = omega arith in ap (λ (n : ℕ). field f xs (run y0 n)) z
 
+pub less-than : {a b : ℕ} → a ≤ b → (a ≡ b → ⊥) → a < b
+less-than {a} {b} l n = omega (arith, n)
+
+-- a box of no pixels has no hits, and one of some has columns and rows
+pub none-of : (f : ℕ → ℕ → ℕ → ℕ) (x y m k : ℕ) → k * m ≡ 0 → field f (run x m) (run y k) ≡ []
+unfolding flatMap run
+none-of f x y m zero e = refl
+none-of f x y zero (suc k) e = no-columns f x (run y (suc k))
+none-of f x y (suc m) (suc k) e = absurd (omega (arith, mul-pos {m = suc k} {n = suc m} (omega arith) (omega arith)))
+
+module _ {v : Canvas} {xs ys : Span} {n p q u t : ℕ} (box : Copying v xs ys n p q u t) (some : n ≡ 0 → ⊥) where
+  pub some-columns : xs .from < xs .to
+  some-columns =
+      let k = ys .to - ys .from in
+      less-than (box .across) (λ h. let d : xs .to - xs .from ≡ 0 = omega (arith, h) in some (box .number ∙ ap (λ (m : ℕ). k * m) d ∙ mul-zero k))
+
+  pub some-rows : ys .from < ys .to
+  some-rows =
+      let m = xs .to - xs .from in
+      less-than (box .down) (λ h. let d : ys .to - ys .from ≡ 0 = omega (arith, h) in some (box .number ∙ ap (λ (k : ℕ). k * m) d ∙ zero-mul m))
+
 pub paint-nothing : (v : Canvas) (hs : List Hit) (b : List ℕ) → hs ≡ [] → b ≡ paint v hs b
 unfolding paint
 paint-nothing v hs b e = rw e refl
-
-pub less-than : {a b : ℕ} → a ≤ b → (a ≡ b → ⊥) → a < b
-less-than {a} {b} l n = omega (arith, n)
 
 -- what is copied, through the colour, is what is seen
 pub copies : (v : Canvas) (b : List ℕ) → Bytes b → (p q u t x0 x1 y0 y1 m n : ℕ) → Sourced p u m x0 x1 → Sourced q t n y0 y1
@@ -328,3 +350,7 @@ copies v b o p q u t x0 x1 y0 y1 m n sx sy =
         let still : ℕ → ℕ → ℕ = λ z w. z in
         ap still (ap (λ (w : ℕ). fromColor (form v) (toColor (form v) w)) (ap₂ (loadAt v b) (source-at p u m x0 x1 i sx a c) (source-at q t n y0 y1 j sy d e))
         ∙ read-store (form v) _ (load-lt v b (x0 + u - p + (i - x0)) (y0 + t - q + (j - y0)) o))
+
+-- what is answered and left, with the count beside it
+pub with-count : {o : Outcome} (d : Drawn) (b n : List ℕ) → leaves d b ≡ o → n ≡ countOf d ∷ [] → _≡_ {A = Outcome × List ℕ} (leaves d b, n) (counted o)
+with-count d b n e h = rw h (ap counted e)

@@ -3,14 +3,14 @@ use mathlib.Core.Path.{_≡_, refl, _∙_}
 use mathlib.Core.List.{List}
 use Prim.Native.Nat.{ℕ, zero, suc, _+_, _*_, _^_, _≤_, _<_}
 use native.Mathlib.Omega.{arith}
-use native.Mathlib.Nat.{mul-le-mul-right, mul-le-mul-left, le-trans}
+use native.Mathlib.Nat.{mul-le-mul-right, mul-le-mul-left, le-trans, mul-comm, mul-right-comm, mod-eq-of-lt}
 use native.Mathlib.Numerals.{add-one, add-two, add-three}
 use lib.Arith.{digits-lt}
 use lib.ListN.{length, getD}
 use Rattle.words.specs.Format.{Format, rgb332, rgb565, rgb8, argb, abgr, none, formatOf, bytesPerPixel, range}
 use Rattle.words.proofs.Laws.{range-bytes}
 use Rattle.pixels.specs.declared.Canvas.{Canvas}
-use Rattle.pixels.specs.Bytes.{pitch, get, load, store, cells, form, size, pixel, extent, loadAt, storeAt, On, Bounded, Sized}
+use Rattle.pixels.specs.Bytes.{pitch, get, load, store, cells, form, size, pixel, extent, folded, loadAt, storeAt, On, Bounded, Sized}
 use Rattle.pixels.specs.Hits.{hit, touch}
 use Rattle.pixels.proofs.bytes.Pixels.{in-row, pixel-fits, pitch-is}
 
@@ -89,9 +89,20 @@ scaled-le v k s h e =
     let q : s ≤ 4 = rw e (bytes-le (form v)) in
     le-trans (mul-le-mul-right s h) (le-trans (mul-le-mul-left 1073676289 q) (omega arith))
 
-pub extent-is : (v : Canvas) (s : ℕ) → v .width ≤ v .row → s ≡ size v → v .height * v .row * s ≡ extent v
-unfolding extent
-extent-is v s h e = rw (e, pitch-is v h) refl
+pub row-bytes-le : (v : Canvas) (s n m : ℕ) → s ≡ size v → n ≤ m → s * n ≤ 4 * m
+row-bytes-le v s n m e l =
+    let q : s ≤ 4 = rw e (bytes-le (form v)) in
+    le-trans (mul-le-mul-right n q) (mul-le-mul-left 4 l)
+
+pub words-le : (m n : ℕ) → m ≤ 4294967295 → n ≤ 4294967295 → m * n ≤ 18446744065119617025
+words-le m n hm hn = le-trans (mul-le-mul-right n hm) (mul-le-mul-left 4294967295 hn)
+
+-- of a row that is not refused the word of 32 bits holds all
+pub folded-is : (v : Canvas) → Bounded v → folded v ≡ extent v
+unfolding folded extent
+folded-is v h =
+    let l : size v * v .row < 4294967296 = omega (arith, row-bytes-le v (size v) (v .row) 32767 refl (h .tails)) in
+    rw (mod-eq-of-lt l, pitch-is v (h .rows)) (mul-right-comm (size v) (v .row) (v .height) ∙ rw (mul-comm (size v) (v .height)) (mul-right-comm (v .height) (size v) (v .row)))
 
 -- ---- the pixel at an offset, of s bytes
 

@@ -1,18 +1,31 @@
--- `words::color332` meets its contract: the table lent is the rule's.
-use mathlib.Core.Path.{_∙_}
+-- `words::color332` meets its contract, which says the same.
+use mathlib.Core.Path.{refl}
 use borrow.Author.Needs.{needs}
-use Rattle.words.proofs.Table.{read-332}
+use Rattle.words.specs.Word.{toColor}
 use Rattle.words.proofs.color332.Statement.{statement}
 use Rattle.words.proofs.color332.Tie as tie
 
-colors332-requires : tie.Need-colors332-requires
-colors332-requires c κs = search needs
+mul-r : tie.Need-mul-r
+mul-r c = search needs
 
-read332-requires : tie.Need-read332-requires
-read332-requires c κs = search needs
+cast-r : tie.Need-cast-r
+cast-r c = search needs
+
+mul-g : tie.Need-mul-g
+mul-g c = search needs
+
+cast-g : tie.Need-cast-g
+cast-g c = search needs
+
+mul-b : tie.Need-mul-b
+mul-b c = search needs
+
+cast-b : tie.Need-cast-b
+cast-b c = search needs
 
 returns : tie.Need-returns
-returns c = c .read332 .ensures ∙ read-332 (c .before .before .before .args .raw) (c .before .before .colors332 .ensures)
+unfolding toColor
+returns c = refl
 
 pub color332-spec : {M : Type 1} → statement M
-color332-spec = tie.close (tie.spec colors332-requires read332-requires returns)
+color332-spec = tie.close (tie.spec mul-r cast-r mul-g cast-g mul-b cast-b returns)

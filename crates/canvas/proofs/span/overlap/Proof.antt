@@ -23,14 +23,14 @@ least-requires c κs = search needs
 most-requires : tie.Need-most-requires
 most-requires c κs = search needs
 
-on-canvas-requires : tie.Need-on-canvas-requires
-on-canvas-requires c κs = search needs
+side-between-requires : tie.Need-side-between-requires
+side-between-requires c κs = search needs
 
 returns : tie.Need-returns
 returns c =
     let least = c .before .before in
     let o = least .before .before in
-    is-overlap (o .args .c) _ _ _ _ (o .fits .c) (least .before .lift .ensures) _ _ _ _ (c .before .most .ensures) (least .least .ensures) (c .on-canvas .ensures)
+    is-overlap (o .args .c) _ _ _ _ (o .fits .c) (least .before .lift .ensures) _ _ _ _ (c .before .most .ensures) (least .least .ensures) (c .side-between .ensures)
 
 pub overlap-spec : {M : Type 1} → statement M
 overlap-spec =
@@ -41,5 +41,5 @@ overlap-spec =
     add-least-2
     least-requires
     most-requires
-    on-canvas-requires
+    side-between-requires
     returns)

@@ -43,8 +43,8 @@ less-requires-2 c κs = search needs
 least-requires-2 : tie.Need-least-requires-2
 least-requires-2 c κs = search needs
 
-on-canvas-requires : tie.Need-on-canvas-requires
-on-canvas-requires c κs = search needs
+side-between-requires : tie.Need-side-between-requires
+side-between-requires c κs = search needs
 
 returns : tie.Need-returns
 returns c =
@@ -55,7 +55,7 @@ returns c =
     let o = larger .before .before in
     is-shown (o .args .c) _ _ _ _ (o .fits .c) (larger .before .lift .ensures) (o .args .p) (o .args .s) _ _ _ _ _ _ _ refl (larger .most .ensures)
     (rw (start .before .less .ensures) at (start .most2 .ensures)) (end .least .ensures) (rw (far .less2 .ensures) at (c .before .least2 .ensures))
-    (c .on-canvas .ensures)
+    (c .side-between .ensures)
 
 pub shown-in-spec : {M : Type 1} → statement M
 shown-in-spec =
@@ -72,5 +72,5 @@ shown-in-spec =
     add-less
     less-requires-2
     least-requires-2
-    on-canvas-requires
+    side-between-requires
     returns)

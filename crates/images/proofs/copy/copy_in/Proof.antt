@@ -1,63 +1,49 @@
--- Nothing where one side shows nothing; else the box of what is shown.
+-- Nothing where no pixel is shown; else the box of what is.
 use native.Mathlib.Omega.{arith}
-use native.Mathlib.Nat.{mul-zero, zero-mul}
-use mathlib.Core.Path.{_≡_, refl, sym, ap, _∙_}
-use Prim.Native.Nat.{ℕ, _+_, _-_, _*_}
-use Rattle.images.specs.Chunks.{shifted}
-use Rattle.pixels.proofs.bytes.Places.{area-le}
-use Rattle.images.proofs.copy.Moves.{none-across, none-down, paint-nothing, less-than}
+use mathlib.Core.Path.{sym, _∙_}
+use Rattle.images.proofs.copy.Moves.{none-of, some-columns, some-rows, paint-nothing}
+use borrow.Author.Needs.{needs}
 use Rattle.images.proofs.copy.copy_in.Statement.{statement}
 use Rattle.images.proofs.copy.copy_in.Tie as tie
 
 returns : tie.Need-returns
-returns c = (paint-nothing (c .before .before .before .args .canvas) _ (c .before .before .before .args .b .now) (none-across (shifted (c .before .before .before .args .canvas) (c .before .before .before .args .b .now) (c .before .before .before .args .xs .from) (c .before .before .before .args .ys .from) (c .before .before .before .args .xs .from + c .before .before .before .args .u - c .before .before .before .args .p) (c .before .before .before .args .ys .from + c .before .before .before .args .v - c .before .before .before .args .q)) (c .before .before .before .args .xs .from) (c .before .before .before .args .xs .to) _ (c .if1 .taken)), let z : c .before .before .before .args .xs .to - c .before .before .before .args .xs .from ≡ 0 = omega (arith, c .if1 .taken) in sym (ap (λ (k : ℕ). (c .before .before .before .args .ys .to - c .before .before .before .args .ys .from) * k) z ∙ mul-zero _))
-
-returns-2 : tie.Need-returns-2
-returns-2 c = (paint-nothing (c .before .before .before .before .before .args .canvas) _ (c .before .before .before .before .before .args .b .now) (none-down (shifted (c .before .before .before .before .before .args .canvas) (c .before .before .before .before .before .args .b .now) (c .before .before .before .before .before .args .xs .from) (c .before .before .before .before .before .args .ys .from) (c .before .before .before .before .before .args .xs .from + c .before .before .before .before .before .args .u - c .before .before .before .before .before .args .p) (c .before .before .before .before .before .args .ys .from + c .before .before .before .before .before .args .v - c .before .before .before .before .before .args .q)) (c .before .before .before .before .before .args .ys .from) (c .before .before .before .before .before .args .ys .to) _ (c .if2 .taken)), let z : c .before .before .before .before .before .args .ys .to - c .before .before .before .before .before .args .ys .from ≡ 0 = omega (arith, c .if2 .taken) in sym (ap (λ (k : ℕ). k * (c .before .before .before .before .before .args .xs .to - c .before .before .before .before .before .args .xs .from)) z ∙ zero-mul _))
+returns c =
+    let start = c .before .before in
+    let a = start .args in
+    paint-nothing (a .canvas) _ (a .b .now) (none-of _ _ _ _ _ (sym (start .pre .1 .number) ∙ c .if1 .taken))
 
 add-sx : tie.Need-add-sx
-add-sx c = record { fits = omega (arith, c .before .before .before .before .before .pre .1 .1 .1 .0, c .before .before .before .before .before .pre .1 .0, c .before .before .before .before .before .pre .0 .wide, c .before .before .before .before .before .pre .1 .1 .1 .1 .1 .1 .1 .0) }
+add-sx c = search needs
 
 sub-sx : tie.Need-sub-sx
-sub-sx c = (c .before .before .before .before .before .pre .1 .1 .1 .1 .1 .0) .begins (less-than (c .before .before .before .before .before .pre .1 .0) (c .before .before .if1 .left))
+sub-sx c =
+    let box = c .before .before .pre .1 in
+    box .columns .begins (some-columns box (c .if1 .left))
 
 add-sy : tie.Need-add-sy
-add-sy c = record { fits = omega (arith, c .before .before .before .before .before .pre .1 .1 .1 .1 .0, c .before .before .before .before .before .pre .1 .1 .0, c .before .before .before .before .before .pre .0 .high, c .before .before .before .before .before .pre .1 .1 .1 .1 .1 .1 .1 .1) }
+add-sy c = search needs
 
 sub-sy : tie.Need-sub-sy
-sub-sy c = (c .before .before .before .before .before .pre .1 .1 .1 .1 .1 .1 .0) .begins (less-than (c .before .before .before .before .before .pre .1 .1 .0) (c .if2 .left))
+sub-sy c =
+    let box = c .before .before .pre .1 in
+    box .rows .begins (some-rows box (c .if1 .left))
 
 copy-box-requires : tie.Need-copy-box-requires
-copy-box-requires c κs = (c .before .before .before .before .before .before .pre .0, (omega (arith, c .before .before .before .before .before .before .pre .1 .1 .1 .0, c .before .before .before .before .before .before .pre .1 .0), (omega (arith, c .before .before .before .before .before .before .pre .1 .1 .1 .1 .0, c .before .before .before .before .before .before .pre .1 .1 .0), ((c .before .before .before .before .before .before .pre .1 .1 .1 .1 .1 .0) .ends (less-than (c .before .before .before .before .before .before .pre .1 .0) (c .before .before .before .if1 .left)), ((c .before .before .before .before .before .before .pre .1 .1 .1 .1 .1 .1 .0) .ends (less-than (c .before .before .before .before .before .before .pre .1 .1 .0) (c .before .if2 .left)), (c .before .before .before .before .before .before .pre .1 .0, c .before .before .before .before .before .before .pre .1 .1 .0))))))
-
-sub-result : tie.Need-sub-result
-sub-result c = c .before .before .before .before .before .before .before .before .before .before .pre .1 .1 .0
-
-sub-result-2 : tie.Need-sub-result-2
-sub-result-2 c = c .before .before .before .before .before .before .before .before .before .before .before .pre .1 .0
-
-mul-result : tie.Need-mul-result
-mul-result c = record { fits = omega (arith, area-le (c .before .before .before .before .before .before .before .before .before .before .before .args .xs .to - c .before .before .before .before .before .before .before .before .before .before .before .args .xs .from) (c .before .before .before .before .before .before .before .before .before .before .before .args .ys .to - c .before .before .before .before .before .before .before .before .before .before .before .args .ys .from) (omega (arith, c .before .before .before .before .before .before .before .before .before .before .before .pre .1 .1 .1 .0, c .before .before .before .before .before .before .before .before .before .before .before .pre .0 .wide)) (omega (arith, c .before .before .before .before .before .before .before .before .before .before .before .pre .1 .1 .1 .1 .0, c .before .before .before .before .before .before .before .before .before .before .before .pre .0 .high))) }
+copy-box-requires c κs =
+    let shows = c .before in
+    let pre = shows .before .before .pre in
+    let box = pre .1 in
+    let x = box .columns .ends (some-columns box (shows .if1 .left)) in
+    let y = box .rows .ends (some-rows box (shows .if1 .left)) in
+    (pre .0, (omega (arith, box .across, box .wide), (omega (arith, box .down, box .high), (x, (y, (box .across, box .down))))))
 
 same-length : tie.Need-same-length
-same-length c = c .before .before .before .before .copy-box .kept .1 .0
+same-length c = search needs
 
-returns-3 : tie.Need-returns-3
-returns-3 c = (c .before .before .before .before .copy-box .ensures, refl)
+returns-2 : tie.Need-returns-2
+returns-2 c = search needs
 
 pub copy-in-spec : {M : Type 1} → statement M
 copy-in-spec =
     tie.close
-    (tie.spec
-    returns
-    returns-2
-    add-sx
-    sub-sx
-    add-sy
-    sub-sy
-    copy-box-requires
-    sub-result
-    sub-result-2
-    mul-result
-    same-length
-    returns-3)
+    (tie.spec returns add-sx sub-sx add-sy sub-sy copy-box-requires same-length returns-2)

@@ -1,34 +1,38 @@
--- The area times a word's bytes; 32,767 squared times four fits.
+-- A row's bytes in a word of 32 bits, times the height: the product of two such words fits.
+use mathlib.Core.Path.{refl}
+use Prim.Native.Nat.{_*_, _%_}
 use native.Mathlib.Omega.{arith}
-use Rattle.pixels.proofs.bytes.Places.{area-le, scaled-le, extent-is}
+use Rattle.pixels.specs.Bytes.{folded}
+use Rattle.pixels.proofs.bytes.Places.{row-bytes-le, words-le}
 use borrow.Author.Needs.{needs}
 use Rattle.pixels.proofs.bytes.extent_of.Statement.{statement}
 use Rattle.pixels.proofs.bytes.extent_of.Tie as tie
 
-cast-area : tie.Need-cast-area
-cast-area c = search needs
-
-cast-area-2 : tie.Need-cast-area-2
-cast-area-2 c = search needs
-
-mul-area : tie.Need-mul-area
-mul-area c =
-    let v = c .before .before .args .canvas in
-    let p = c .before .before .pre in
-    record { fits = omega (arith, area-le (v .row) (v .height) (p .tails) (p .high)) }
-
 bytes-per-pixel-requires : tie.Need-bytes-per-pixel-requires
 bytes-per-pixel-requires c κs = search needs
+
+cast-side : tie.Need-cast-side
+cast-side c = search needs
+
+mul-side : tie.Need-mul-side
+mul-side c =
+    let v = c .before .before .args .canvas in
+    let row = c .struct-known .given in
+    record { fits = omega (arith, row-bytes-le v _ (v .row) 4294967295 (c .before .bytes-per-pixel .ensures) (omega (arith, row))) }
+
+cast-result : tie.Need-cast-result
+cast-result c = search needs
 
 mul-result : tie.Need-mul-result
 mul-result c =
     let v = c .before .before .before .args .canvas in
-    let p = c .before .before .before .pre in
-    record { fits = omega (arith, scaled-le v _ _ (area-le (v .row) (v .height) (p .tails) (p .high)) (c .bytes-per-pixel .ensures)) }
+    let n = c .before .before .bytes-per-pixel .result in
+    record { fits = omega (arith, words-le (n * v .row % 4294967296) (v .height) (omega arith) (omega (arith, c .struct-known2 .given))) }
 
 returns : tie.Need-returns
-returns c = extent-is (c .before .before .before .args .canvas) _ (c .before .before .before .pre .rows) (c .bytes-per-pixel .ensures)
+unfolding folded
+returns c = rw (c .before .before .bytes-per-pixel .ensures) refl
 
 pub extent-of-spec : {M : Type 1} → statement M
 extent-of-spec =
-    tie.close (tie.spec cast-area cast-area-2 mul-area bytes-per-pixel-requires mul-result returns)
+    tie.close (tie.spec bytes-per-pixel-requires cast-side mul-side cast-result mul-result returns)

@@ -1,9 +1,9 @@
 -- `level6_of` meets its contract: the two divisions agree at each level.
 use native.Mathlib.Omega.{arith}
 use Rattle.words.specs.Word.{level6}
 use borrow.Author.Needs.{needs}
-use Rattle.blending.proofs.level6_of.Statement.{statement}
-use Rattle.blending.proofs.level6_of.Tie as tie
+use Rattle.words.proofs.level6_of.Statement.{statement}
+use Rattle.words.proofs.level6_of.Tie as tie
 
 mul-result : tie.Need-mul-result
 mul-result c = search needs

@@ -2,8 +2,8 @@
 use mathlib.Core.Path.{_∙_, ap₂}
 use Rattle.canvas.specs.Walk.{inOrder}
 use borrow.Author.Needs.{needs}
-use Rattle.canvas.proofs.span.on_canvas.Statement.{statement}
-use Rattle.canvas.proofs.span.on_canvas.Tie as tie
+use Rattle.canvas.proofs.span.side_between.Statement.{statement}
+use Rattle.canvas.proofs.span.side_between.Tie as tie
 
 less-requires : tie.Need-less-requires
 less-requires c κs = search needs
@@ -22,6 +22,6 @@ returns c =
     let to = c .before .before .before .less .ensures in
     c .in-order .ensures ∙ ap₂ inOrder (c .before .before .less2 .ensures) (rw to at (c .before .least .ensures))
 
-pub on-canvas-spec : {M : Type 1} → statement M
-on-canvas-spec =
+pub side-between-spec : {M : Type 1} → statement M
+side-between-spec =
     tie.close (tie.spec less-requires less-requires-2 least-requires in-order-requires returns)
