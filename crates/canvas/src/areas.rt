@@ -17,10 +17,14 @@ use crate::faults::judge;
 use crate::span::lift;
 use pixels::Canvas;
 
-// The plots of an inverted box with a lifted corner. What XOR is, is not handed on: a call that is refused then never asks.
+// The plots of an inverted box with a lifted corner. XOR, which inversion ignores, is not handed on, so that a call that is
+// refused never asks for it.
 fn invert_in(canvas: Canvas, b: &mut [u8], p: u64, q: u64, w: u32, h: u32, clip: Clip) -> Tally
     requires { ⌜ (Sized canvas (now b)) × ((p < 17179869184) × (q < 17179869184)) ⌝ }
-    ensures { λ r. ⌜ Did canvas clip (inks (inked (invertInk (form canvas))) (fill canvas (lowered p) (lowered q) w h)) (work (now (b .entry)) (record { landed = 0 })) (work (now (b .exit)) r) ⌝ }
+    ensures { λ r. ⌜
+        Did canvas clip (inks (inked (invertInk (form canvas))) (fill canvas (lowered p) (lowered q) w h))
+        (work (now (b .entry)) (record { landed = 0 })) (work (now (b .exit)) r)
+        ⌝ }
 {
     let plain = Canvas {
         format: canvas.format,

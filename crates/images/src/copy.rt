@@ -125,7 +125,11 @@ fn copy_box(canvas: Canvas, b: &mut [u8], xs: Span, ys: Span, sx: usize, sy: usi
 // The copy of what is shown, n pixels.
 fn copy_in(canvas: Canvas, b: &mut [u8], xs: Span, ys: Span, n: u64, p: u64, q: u64, u: u64, v: u64)
     requires { ⌜ (Sized canvas (now b)) × (Copying canvas xs ys n p q u v) ⌝ }
-    ensures { λ _. ⌜ now (b .exit) ≡ paint canvas (field (shifted canvas (now (b .entry)) (xs .from) (ys .from) (xs .from + u - p) (ys .from + v - q)) (run (xs .from) (xs .to - xs .from)) (run (ys .from) (ys .to - ys .from))) (now (b .entry)) ⌝ }
+    ensures { λ _. ⌜
+        now (b .exit)
+        ≡ paint canvas (field (shifted canvas (now (b .entry)) (xs .from) (ys .from) (xs .from + u - p) (ys .from + v - q))
+        (run (xs .from) (xs .to - xs .from)) (run (ys .from) (ys .to - ys .from))) (now (b .entry))
+        ⌝ }
 {
     if n == 0 {
         return;
@@ -135,8 +139,8 @@ fn copy_in(canvas: Canvas, b: &mut [u8], xs: Span, ys: Span, n: u64, p: u64, q: 
     copy_box(canvas, b, xs, ys, sx as usize, sy as usize);
 }
 
-// The pixels of one box, in the place of those of another. The count is written before they are: a call that is refused then
-// has a count of its own to write, and no place in common with one that is accepted.
+// The pixels of one box, in the place of those of another. The count is written before them, so that a call that is refused
+// writes its own and shares no place with one that is accepted.
 pub fn copy_counted(
     canvas: Canvas,
     bytes: &mut [u8],
