@@ -57,8 +57,8 @@ pub fn judge(canvas: Canvas, len: usize) -> Verdict
         }
         return Verdict::Faulty(Refusal::Length);
     }
-    if is_off(canvas.row, canvas.width) {
-        return Verdict::Faulty(Refusal::Row);
+    if !is_off(canvas.row, canvas.width) {
+        return Verdict::Sound;
     }
-    Verdict::Sound
+    Verdict::Faulty(Refusal::Row)
 }

@@ -64,7 +64,7 @@ returns-6 c =
     let size = whole .before .before in
     let f = le-ltb _ _ (size .before .if1 .left) in
     let s = sym (size .is-large .ensures) ∙ whole .before .if2 .left in
-    row-first _ _ f s (sym (c .before .is-off2 .ensures) ∙ c .if6 .taken)
+    none-first _ _ f s (sym (c .before .is-off2 .ensures) ∙ not-true _ (c .if6 .taken)) (sym (whole .is-whole .ensures) ∙ not-false _ (c .before .before .if3 .left))
 
 returns-7 : tie.Need-returns-7
 returns-7 c =
@@ -72,7 +72,7 @@ returns-7 c =
     let size = whole .before .before in
     let f = le-ltb _ _ (size .before .if1 .left) in
     let s = sym (size .is-large .ensures) ∙ whole .before .if2 .left in
-    none-first _ _ f s (sym (c .before .is-off2 .ensures) ∙ c .if6 .left) (sym (whole .is-whole .ensures) ∙ not-false _ (c .before .before .if3 .left))
+    row-first _ _ f s (sym (c .before .is-off2 .ensures) ∙ not-false _ (c .if6 .left))
 
 pub judge-spec : {M : Type 1} → statement M
 judge-spec =
