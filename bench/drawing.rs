@@ -3,12 +3,14 @@
 //!   passed in each call; the canvas is not looked at anew.
 //! - Ours: the whole call of the static library, which tests the canvas's format, sides and length each time, and counts.
 //!
-//! Each time is the best of many samples. Before a row is timed both sides must leave the same bytes. The last table has ours
-//! twice, on rows without tails and with them; `tails` prints it alone.
+//! Each time is the best of many samples. Before a row is timed both sides must leave the same bytes. Where ours blends by rule 2
+//! the Rust blends by rule 1, since it has no other, and the bytes are those of oracle/src/rules.rs; a library without rules has
+//! no such rows. `rules` prints the whole image by rule 1 and these alone. The last table has ours twice, on rows without tails
+//! and with them; `tails` prints it alone.
 //!
 //! `passes CALL rust|ours|tails FORMAT XOR K` makes a call K times on one side and prints nothing, for instructions to be
-//! counted; `shapes` prints the names of the lines and curves that are built in, with the plots that land. `edges` makes calls
-//! that draw next to nothing or are refused, and prints what they are.
+//! counted; `CALL-rule-2` is the call by rule 2 on our side. `shapes` prints the names of the lines and curves that are built in,
+//! with the plots that land. `edges` makes calls that draw next to nothing or are refused, and prints what they are.
 
 extern crate alloc;
 
@@ -20,7 +22,12 @@ mod edges;
 #[path = "../oracle/src/exported.rs"]
 mod exported;
 mod race;
+#[path = "../oracle/src/rules.rs"]
+mod rules;
 mod shapes;
+#[allow(dead_code)]
+#[path = "../oracle/src/tally.rs"]
+mod tally;
 
 use std::hint::black_box;
 
@@ -74,6 +81,11 @@ impl Ours {
         let tail = vec![0xA5; (TAIL * size) as usize];
         let bytes = bytes.chunks_exact((canvas.width * size) as usize).flat_map(|row| [row, &tail].concat()).collect();
         Ours { canvas: exported::Canvas { row: canvas.width + TAIL, ..canvas }, bytes }
+    }
+
+    /// The same canvas by another rule.
+    fn by(self, rule: u32) -> Ours {
+        Ours { canvas: exported::Canvas { rule, ..self.canvas }, ..self }
     }
 
     /// The one that a side of `passes` takes.
@@ -138,7 +150,7 @@ fn pair_of(format: u32, xor: bool, mut s: u32, sides: (u32, u32)) -> (Box<dyn Ca
     };
     canvas.set_xor_mode(xor);
     let (width, height) = sides;
-    (canvas, Ours { canvas: exported::Canvas { format, width, height, xor_mode: xor.into(), row: width }, bytes })
+    (canvas, Ours { canvas: exported::Canvas { format, width, height, xor_mode: xor.into(), row: width, rule: 1 }, bytes })
 }
 
 fn canvas_of<P: PixelType + 'static>((width, height): (u32, u32), bytes: &[u8]) -> Box<dyn Canvas> {
@@ -180,14 +192,36 @@ fn same(canvas: &dyn Canvas, ours: &Ours) {
 
 /// A row of a call; an image, where it has one, is of the format `source`.
 fn call(what: &str, format: u32, xor: bool, note: &str, source: u32, work: Work) {
-    let (mut canvas, mut ours) = pair(format, xor, 7);
+    call_by(1, what, format, xor, note, source, work);
+}
+
+/// The same where ours goes by a rule.
+fn call_by(rule: u32, what: &str, format: u32, xor: bool, note: &str, source: u32, work: Work) {
+    let (mut canvas, ours) = pair(format, xor, 7);
+    let mut ours = ours.by(rule);
     let (image, lent) = pair(source, false, 8);
-    rust_call(&mut *canvas, image.image(), work);
+    match work {
+        Work::Draw(w, h) if rule == 2 => rules::draw(&mut *canvas, 0, 0, w, h, image.image(), 0, 0, WHOLE),
+        _ => rust_call(&mut *canvas, image.image(), work),
+    }
     let landed = ours.call(&lent, work);
     same(&*canvas, &ours);
     let times =
         race(|| rust_call(&mut *canvas, image.image(), black_box(work)), || _ = black_box(ours.call(&lent, black_box(work))));
     row(what, format, xor, note, landed, times);
+}
+
+/// Whether the library knows rules: an older one does not look at the number behind the row.
+fn knows_rules() -> bool {
+    let canvas = exported::Canvas { format: 0, width: 1, height: 1, xor_mode: 0, row: 1, rule: 0 };
+    unsafe { tuyrashka_get_pixel(&canvas, [0].as_ptr(), 1, 0, 0, &mut false, &mut 0) != 0 }
+}
+
+/// Rows of images that ours draws by rule 2 with XOR off, and the Rust by rule 1.
+fn rule_2() {
+    for (note, work) in [("ARGB over it, rule 2", DRAW), ("draw-4, rule 2", Work::Draw(4, 4))] {
+        (0..5).filter(|_| knows_rules()).for_each(|format| call_by(2, "draw", format, false, note, 3, work));
+    }
 }
 
 fn rust_puts(canvas: &mut dyn Canvas) {
@@ -243,7 +277,8 @@ fn passes(name: &str, side: &str, format: u32, xor: bool, k: u32) {
         return;
     }
     let (mut canvas, ours) = pair(format, xor, 7);
-    let mut ours = ours.on(side);
+    let (name, rule) = name.strip_suffix("-rule-2").map_or((name, 1), |name| (name, 2));
+    let mut ours = ours.on(side).by(rule);
     match (name, side) {
         ("put", "rust") => return (0..k).for_each(|_| rust_puts(&mut *canvas)),
         ("put", _) => return (0..k).for_each(|_| every_point(|x, y| _ = black_box(ours.put(x, y)))),
@@ -324,6 +359,10 @@ fn main() {
     }
     println!("| {WIDTH} by {HEIGHT} | format | XOR | how | Rust, ns a pixel | ours, ns a pixel | ours / Rust |");
     println!("|---|---|---|---|---|---|---|");
+    if words == ["rules"] {
+        (0..5).for_each(|format| call("draw", format, false, "ARGB over it", 3, DRAW));
+        return rule_2();
+    }
     for (note, clip) in [("whole", WHOLE), ("border cut", INNER)] {
         modes().for_each(|(format, xor)| call("fill_rect", format, xor, note, 3, Work::Fill(WIDTH, HEIGHT, clip)));
     }
@@ -340,6 +379,7 @@ fn main() {
         let one_mode = matches!(work, Work::Invert(..) | Work::Copy(..));
         modes().filter(|(_, xor)| !(one_mode && *xor)).for_each(|(format, xor)| call(what, format, xor, note, 3, work));
     }
+    rule_2();
     modes().for_each(|(format, xor)| put(format, xor));
     (0..5).for_each(get);
     shapes::rows();

@@ -33,9 +33,10 @@ const CALLS: [&str; 12] = [
     "draw",
 ];
 
-const HOWS: [(&str, fn(&mut Made)); 21] = [
+const HOWS: [(&str, fn(&mut Made)); 24] = [
     ("lands", |_| {}),
     ("lands, XOR on", |m| m.canvas.xor_mode = 1),
+    ("lands, rule 2", |m| m.canvas.rule = 2),
     ("long row", |m| m.canvas = Canvas { width: 32767, height: 1, row: 32767, ..m.canvas }),
     ("no pixel", |m| m.canvas = Canvas { width: 0, row: 0, ..m.canvas }),
     ("left", |m| m.x = -100),
@@ -45,12 +46,14 @@ const HOWS: [(&str, fn(&mut Made)); 21] = [
     ("empty clip", |m| m.clip.width = 0),
     ("clip apart", |m| m.clip = Clip { x: 100, y: 100, ..m.clip }),
     ("FORMAT", |m| m.canvas.format = 5),
+    ("RULE", |m| m.canvas.rule = 3),
     ("SIZE, width", |m| m.canvas = Canvas { width: 32768, row: 32768, ..m.canvas }),
     ("SIZE, height", |m| m.canvas.height = 32768),
     ("ROW, short", |m| m.canvas.row -= 1),
     ("ROW, long", |m| m.canvas.row = 32768),
     ("LENGTH", |m| m.missing = 1),
     ("SOURCE, format", |m| m.source.format = 5),
+    ("SOURCE, rule", |m| m.source.rule = 3),
     ("SOURCE, size", |m| m.source.height = 32768),
     ("SOURCE, length", |m| m.source_missing = 1),
     ("ANGLE", |m| m.angle = 721),
@@ -69,7 +72,7 @@ fn has(call: &str, how: &str) -> bool {
 
 impl Made {
     fn new(format: u32) -> Made {
-        let canvas = Canvas { format, width: 16, height: 16, xor_mode: 0, row: 16 };
+        let canvas = Canvas { format, width: 16, height: 16, xor_mode: 0, row: 16, rule: 1 };
         let clip = Clip { x: 0, y: 0, width: 16, height: 16 };
         Made { canvas, missing: 0, x: 0, y: 0, side: 2, angle: 0, clip, source: canvas, source_missing: 0 }
     }

@@ -18,9 +18,9 @@ extern "C" {
 #endif
 
 #define TUYRASHKA_VERSION_MAJOR 0
-#define TUYRASHKA_VERSION_MINOR 3
+#define TUYRASHKA_VERSION_MINOR 4
 #define TUYRASHKA_VERSION_PATCH 0
-#define TUYRASHKA_VERSION "0.3.0"
+#define TUYRASHKA_VERSION "0.4.0"
 
 /* Formats. A pixel is a little-endian word. */
 #define TUYRASHKA_RGB332 0u /* 1 byte */
@@ -29,13 +29,17 @@ extern "C" {
 #define TUYRASHKA_ARGB 3u   /* 4 bytes, AARRGGBB */
 #define TUYRASHKA_ABGR 4u   /* 4 bytes, AABBGGRR */
 
-/* What a call returns. On a canvas the first that holds is given, in this order: FORMAT, SIZE, ROW, LENGTH, SOURCE, ANGLE, SHAPE.
- * A file gets the first that is met. */
+/* Blending rules: what tuyrashka_draw with XOR off makes of a channel c of alpha a over a channel bg. */
+#define TUYRASHKA_DOWN 1u    /* c*f + bg*(1 - f), f being a/255, each step rounded to a float, cut downward to a whole number */
+#define TUYRASHKA_NEAREST 2u /* (c*a + bg*(255 - a) + 127) / 255 in whole numbers: the nearest one */
+
+/* What a call returns. On a canvas the first that holds is given, in this order: FORMAT, RULE, SIZE, ROW, LENGTH, SOURCE, ANGLE,
+ * SHAPE. A file gets the first that is met. */
 #define TUYRASHKA_OK 0u
 #define TUYRASHKA_FORMAT 1u   /* the format is above 4 */
 #define TUYRASHKA_SIZE 2u     /* a side of the canvas is above 32,767 */
 #define TUYRASHKA_LENGTH 3u   /* data_len is not row times height times the bytes of a pixel */
-#define TUYRASHKA_SOURCE 4u   /* tuyrashka_draw: FORMAT, SIZE, ROW or LENGTH holds of the source */
+#define TUYRASHKA_SOURCE 4u   /* tuyrashka_draw: FORMAT, RULE, SIZE, ROW or LENGTH holds of the source */
 #define TUYRASHKA_ANGLE 5u    /* arcs and pies: an angle is outside -720..720 */
 #define TUYRASHKA_SHAPE 6u    /* arcs, pies, round rectangles: x or y outside -32,768..32,767, or w or h above 32,767 */
 #define TUYRASHKA_INVALID 10u /* LBMP: a bad header, or bytes are missing */
@@ -46,6 +50,7 @@ extern "C" {
 #define TUYRASHKA_RESTYPE 15u /* RES: a record's type is not 2 or 3 */
 #define TUYRASHKA_NOICON 16u  /* RES: the file ends before an icon */
 #define TUYRASHKA_ROW 18u     /* row is below the width or above 32,767 */
+#define TUYRASHKA_RULE 23u    /* rule is not 1 or 2 */
 
 /* A canvas, beside its bytes: height rows from the top, each of row pixels, of which the first width are the canvas. A side may
  * be 0.
@@ -54,17 +59,20 @@ extern "C" {
  * every call; a point there is off the canvas. Where rows have none, row is the width. A record whose initialiser leaves row out
  * has a row of 0, and is refused unless its width is 0; tuyrashka_canvas_of makes one whose row is its width.
  *
+ * rule is the blending rule, by which tuyrashka_draw with XOR off blends; no other call goes by it, and each refuses what is no
+ * rule. A record whose initialiser leaves it out has a rule of 0, and is refused; tuyrashka_canvas_of takes TUYRASHKA_DOWN.
+ *
  * With XOR off a plot stores its colour; a format without alpha drops it. With XOR on (xor_mode is not 0) a colour of alpha 0
  * changes nothing, and any other is XORed with the pixel, so that drawing again takes it away; ARGB and ABGR then XOR r, g and b
  * and set alpha to 255. */
 struct tuyrashka_canvas {
-    uint32_t format, width, height, xor_mode, row;
+    uint32_t format, width, height, xor_mode, row, rule;
 };
 
-/* A canvas whose rows have no tails, with XOR off. */
+/* A canvas whose rows have no tails, with XOR off and rule 1. */
 static inline struct tuyrashka_canvas tuyrashka_canvas_of(uint32_t format, uint32_t width, uint32_t height)
 {
-    struct tuyrashka_canvas canvas = {format, width, height, 0, width};
+    struct tuyrashka_canvas canvas = {format, width, height, 0, width, TUYRASHKA_DOWN};
     return canvas;
 }
 
@@ -144,9 +152,10 @@ uint32_t tuyrashka_copy_area(const struct tuyrashka_canvas *canvas, uint8_t *dat
                              int32_t dx, int32_t dy, int32_t sx, int32_t sy, uint32_t w, uint32_t h,
                              const struct tuyrashka_clip *clip, struct tuyrashka_drawn *drawn);
 
-/* Draws the box at (sx, sy) of an image at (dx, dy). Points that come from off the image are left out. source's xor_mode says
- * nothing. With XOR off a pixel of alpha 255 is stored and any other blended with the one below, which gets alpha 255, also at
- * alpha 0; with XOR on alpha 0 changes nothing, and any other scales r, g and b before the XOR. */
+/* Draws the box at (sx, sy) of an image at (dx, dy). Points that come from off the image are left out. source's xor_mode and rule
+ * say nothing, but that a rule which is none is refused. With XOR off a pixel of alpha 255 is stored and any other blended with
+ * the one below by the canvas's rule, and the pixel gets alpha 255, also at alpha 0; with XOR on alpha 0 changes nothing, and any
+ * other scales r, g and b before the XOR, by either rule alike. */
 uint32_t tuyrashka_draw(const struct tuyrashka_canvas *canvas, uint8_t *data, size_t data_len,
                         int32_t dx, int32_t dy, uint32_t w, uint32_t h,
                         const struct tuyrashka_canvas *source, const uint8_t *image, size_t image_len,

@@ -55,8 +55,8 @@ void make_drawing_arenas(void)
 
 static void show_board(const char *what, const struct board *b)
 {
-    printf("  %s: format %u, %u by %u, rows of %u, XOR %u, %zu bytes%s\n", what, b->record.format, b->record.width,
-           b->record.height, b->record.row, b->record.xor_mode, b->bytes->length, b->null ? " (NULL)" : "");
+    printf("  %s: format %u, %u by %u, rows of %u, XOR %u, rule %u, %zu bytes%s\n", what, b->record.format, b->record.width,
+           b->record.height, b->record.row, b->record.xor_mode, b->record.rule, b->bytes->length, b->null ? " (NULL)" : "");
 }
 
 static void show_call(void)
@@ -78,6 +78,8 @@ static uint32_t fault_of(const struct tuyrashka_canvas *c, size_t length)
 {
     if (c->format > TUYRASHKA_ABGR)
         return TUYRASHKA_FORMAT;
+    if (c->rule != TUYRASHKA_DOWN && c->rule != TUYRASHKA_NEAREST)
+        return TUYRASHKA_RULE;
     if (c->width > 32767 || c->height > 32767)
         return TUYRASHKA_SIZE;
     if (c->row < c->width || c->row > 32767)
@@ -102,6 +104,7 @@ static void choose_record(struct tuyrashka_canvas *c)
     c->width = one_in(50) ? 0 : 1 + below(16);
     c->height = one_in(50) ? 0 : 1 + below(16);
     c->xor_mode = one_in(2) ? 0 : one_in(2) ? 1 : extreme();
+    c->rule = 1 + below(2);
     if (one_in(500)) {
         uint32_t longer = 32765 + below(3);
         c->width = one_in(2) ? longer : 1;
@@ -118,6 +121,8 @@ static void choose_record(struct tuyrashka_canvas *c)
         c->height = extreme();
     if (one_in(3))
         c->row = one_in(2) ? c->width - 1 : extreme();
+    if (one_in(3))
+        c->rule = one_in(2) ? below(5) : extreme();
 }
 
 /* The bytes of a record: as many as it says or as 32 bits keep of that, where there is room, and at times one more or less, or as

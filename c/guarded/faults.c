@@ -42,10 +42,19 @@ static size_t exact_bytes(const struct tuyrashka_canvas *canvas)
     uint32_t __wrap_tuyrashka_##name(__VA_ARGS__); \
     uint32_t __wrap_tuyrashka_##name(__VA_ARGS__)
 
-/* 1: a byte past the end is stored. 21: a byte of the first tail is. */
+/* The canvas by rule 1, whatever it says: what a library takes that lets its rule pass. */
+static struct tuyrashka_canvas lax(const struct tuyrashka_canvas *canvas)
+{
+    struct tuyrashka_canvas by_rule_1 = *canvas;
+    by_rule_1.rule = TUYRASHKA_DOWN;
+    return by_rule_1;
+}
+
+/* 1: a byte past the end is stored. 21: a byte of the first tail is. 27: a rule of 0 passes. */
 BEFORE(put_pixel, CANVAS, CORNER, uint32_t argb, REST)
 {
-    uint32_t status = __real_tuyrashka_put_pixel(canvas, data, data_len, x, y, argb, clip, drawn);
+    const struct tuyrashka_canvas any_rule = lax(canvas), *taken = is(27) && canvas->rule == 0 ? &any_rule : canvas;
+    uint32_t status = __real_tuyrashka_put_pixel(taken, data, data_len, x, y, argb, clip, drawn);
     if (is(1) && drawn->landed != 0)
         store(data + data_len);
     if (is(21) && drawn->landed != 0 && canvas->row > canvas->width)
@@ -53,12 +62,13 @@ BEFORE(put_pixel, CANVAS, CORNER, uint32_t argb, REST)
     return status;
 }
 
-/* 2: a length is tested wrongly, so that one byte too few passes. 3: and one too many. */
+/* 2: a length is tested wrongly, so that one byte too few passes. 3: and one too many. 28: a rule of 3 passes. */
 BEFORE(draw_line, CANVAS, CORNER, int32_t x2, int32_t y2, uint32_t argb, REST)
 {
     size_t exact = exact_bytes(canvas);
     bool passes = (is(2) && data_len + 1 == exact) || (is(3) && data_len == exact + 1);
-    return __real_tuyrashka_draw_line(canvas, data, passes ? exact : data_len, x, y, x2, y2, argb, clip, drawn);
+    const struct tuyrashka_canvas any_rule = lax(canvas), *taken = is(28) && canvas->rule == 3 ? &any_rule : canvas;
+    return __real_tuyrashka_draw_line(taken, data, passes ? exact : data_len, x, y, x2, y2, argb, clip, drawn);
 }
 
 /* 4: the count stays as it was on a refusal. 22: the length is that of the width. */
@@ -74,37 +84,44 @@ BEFORE(draw_rect, CANVAS, BOX, uint32_t argb, REST)
     return status;
 }
 
-/* 5: a byte before the first is stored. 23: a row that is one too long passes. */
+/* 5: a byte before the first is stored. 23: a row that is one too long passes. 29: the top bit of a rule is not
+ * looked at. */
 BEFORE(fill_rect, CANVAS, BOX, uint32_t argb, REST)
 {
-    uint32_t status = __real_tuyrashka_fill_rect(canvas, data, data_len, x, y, w, h, argb, clip, drawn);
+    bool passes = is(29) && ((canvas->rule & 0x7FFFFFFF) == 1 || (canvas->rule & 0x7FFFFFFF) == 2);
+    const struct tuyrashka_canvas any_rule = lax(canvas), *taken = passes ? &any_rule : canvas;
+    uint32_t status = __real_tuyrashka_fill_rect(taken, data, data_len, x, y, w, h, argb, clip, drawn);
     if (is(5) && drawn->landed != 0)
         store(data - 1);
     return is(23) && status == TUYRASHKA_ROW && canvas->row == 32768 ? TUYRASHKA_OK : status;
 }
 
-/* 6: an angle of 721 passes. */
+/* 6: an angle of 721 passes. 30: the rule is judged behind the sides. */
 BEFORE(draw_arc, CANVAS, BOX, int32_t start_angle, int32_t arc_angle, uint32_t argb, REST)
 {
     int32_t held = is(6) && arc_angle == 721 ? 720 : arc_angle;
-    return __real_tuyrashka_draw_arc(canvas, data, data_len, x, y, w, h, start_angle, held, argb, clip, drawn);
+    uint32_t status = __real_tuyrashka_draw_arc(canvas, data, data_len, x, y, w, h, start_angle, held, argb, clip, drawn);
+    bool large = canvas->width > 32767 || canvas->height > 32767;
+    return is(30) && status == TUYRASHKA_RULE && large ? TUYRASHKA_SIZE : status;
 }
 
-/* 7: a byte is stored before the angles are judged. */
+/* 7: a byte is stored before the angles are judged. 31: the rule is judged before the format. */
 BEFORE(fill_arc, CANVAS, BOX, int32_t start_angle, int32_t arc_angle, uint32_t argb, REST)
 {
     uint32_t status = __real_tuyrashka_fill_arc(canvas, data, data_len, x, y, w, h, start_angle, arc_angle, argb, clip, drawn);
     if (is(7) && status >= TUYRASHKA_ANGLE && data_len > 0)
         data[0]++;
-    return status;
+    return is(31) && status == TUYRASHKA_FORMAT && canvas->rule != 1 && canvas->rule != 2 ? TUYRASHKA_RULE : status;
 }
 
-/* 8: the answer is written twice, the second time behind itself. */
+/* 8: the answer is written twice, the second time behind itself. 32: a field behind the rule is read. */
 BEFORE(draw_round_rect, CANVAS, BOX, uint32_t arc_w, uint32_t arc_h, uint32_t argb, REST)
 {
     uint32_t status = __real_tuyrashka_draw_round_rect(canvas, data, data_len, x, y, w, h, arc_w, arc_h, argb, clip, drawn);
     if (is(8))
         store(drawn + 1);
+    if (is(32))
+        touch((const uint8_t *)(canvas + 1));
     return status;
 }
 
@@ -131,23 +148,29 @@ BEFORE(copy_area, CANVAS, CORNER, int32_t sx, int32_t sy, uint32_t w, uint32_t h
     return __real_tuyrashka_copy_area(canvas, data, data_len, x, y, sx, sy, w, h, clip, drawn);
 }
 
-/* 12: a byte behind the image is read. 13: the image is written. 25: its row has a number of its own. */
+/* 12: a byte behind the image is read. 13: the image is written. 25: its row has a number of its own. 33: so has its rule. 34:
+ * its rule is not judged. */
 BEFORE(draw, CANVAS, BOX, const struct tuyrashka_canvas *source, const uint8_t *image, size_t image_len, int32_t sx, int32_t sy,
        REST)
 {
-    uint32_t status = __real_tuyrashka_draw(canvas, data, data_len, x, y, w, h, source, image, image_len, sx, sy, clip, drawn);
+    const struct tuyrashka_canvas any_rule = lax(source), *taken = is(34) ? &any_rule : source;
+    uint32_t status = __real_tuyrashka_draw(canvas, data, data_len, x, y, w, h, taken, image, image_len, sx, sy, clip, drawn);
     if (is(12) && drawn->landed != 0)
         touch(image + image_len);
     if (is(13) && drawn->landed != 0)
         store(image);
+    if (is(33) && status == TUYRASHKA_SOURCE && source->rule != 1 && source->rule != 2)
+        return TUYRASHKA_RULE;
     return is(25) && status == TUYRASHKA_SOURCE && source->row < source->width ? TUYRASHKA_ROW : status;
 }
 
-/* 14: a byte is read before the length is judged. 15: off the canvas there is a colour. 26: a tail is on the canvas. */
+/* 14: a byte is read before the length is judged. 15: off the canvas there is a colour. 26: a tail is on the canvas. 35: the rule
+ * is not judged. */
 BEFORE(get_pixel, const struct tuyrashka_canvas *canvas, const uint8_t *data, size_t data_len, CORNER, bool *found,
        uint32_t *argb)
 {
-    uint32_t status = __real_tuyrashka_get_pixel(canvas, data, data_len, x, y, found, argb);
+    const struct tuyrashka_canvas any_rule = lax(canvas), *taken = is(35) ? &any_rule : canvas;
+    uint32_t status = __real_tuyrashka_get_pixel(taken, data, data_len, x, y, found, argb);
     if (is(14))
         touch(data);
     if (is(15) && !*found)

@@ -8,14 +8,15 @@ static struct tuyrashka_canvas board;
 
 static void show_board(void)
 {
-    printf("  a canvas of format %u, %u by %u, rows of %u\n", board.format, board.width, board.height, board.row);
+    printf("  a canvas of format %u, %u by %u, rows of %u, rule %u\n", board.format, board.width, board.height, board.row,
+           board.rule);
 }
 
 /* The calls at a corner, each of which lands so many plots there. The last leave white, and its lowest byte is 255 in every
  * format. */
 static void draw_at(uint8_t *data, size_t length, int32_t x, int32_t y)
 {
-    static const struct tuyrashka_canvas dot = {TUYRASHKA_RGB332, 2, 2, 0, 3};
+    static const struct tuyrashka_canvas dot = {TUYRASHKA_RGB332, 2, 2, 0, 3, TUYRASHKA_DOWN};
     static const uint8_t pixels[6] = {0xE0, 0xFF, 0, 0x03, 0x1C, 0};
     const struct tuyrashka_clip k = {x, y, 2, 2};
     struct tuyrashka_drawn d;
@@ -53,7 +54,7 @@ void draw_on_largest(void)
         size_t length = (size_t)SIDE * SIDE * (format == TUYRASHKA_RGB332 ? 1 : format == TUYRASHKA_RGB565 ? 2 : 4);
         uint8_t *data = guarded(-1, length, PROT_READ | PROT_WRITE);
         for (uint32_t width = SIDE; width >= SIDE / 2; width -= SIDE / 2) {
-            struct tuyrashka_canvas largest = {format, width, SIDE, 0, SIDE};
+            struct tuyrashka_canvas largest = {format, width, SIDE, 0, SIDE, width == SIDE ? TUYRASHKA_DOWN : TUYRASHKA_NEAREST};
             board = largest;
             draw_at(data, length, (int32_t)width - 2, SIDE - 2);
             draw_at(data, length, 0, 0);

@@ -5,7 +5,7 @@
 
 struct call now;
 
-static uint64_t state, calls, landed, nothing, refused[TUYRASHKA_ROW + 1];
+static uint64_t state, calls, landed, nothing, refused[TUYRASHKA_RULE + 1];
 
 /* splitmix64 */
 uint32_t any(void)
@@ -80,7 +80,7 @@ static void report(void)
 {
     printf("%llu calls on memory between guards: %llu landed or found something, %llu nothing; refused",
            (unsigned long long)calls, (unsigned long long)landed, (unsigned long long)nothing);
-    for (uint32_t number = 1; number <= TUYRASHKA_ROW; number++)
+    for (uint32_t number = 1; number <= TUYRASHKA_RULE; number++)
         if (refused[number] != 0)
             printf(" %u: %llu", number, (unsigned long long)refused[number]);
     printf("\n");

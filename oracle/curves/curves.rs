@@ -14,12 +14,13 @@ mod oracle {
     pub mod exported;
     pub mod icons;
     pub mod library;
+    pub mod rules;
     pub mod tally;
 }
 
 use std::process::ExitCode;
 
-use oracle::{answer, canvas, case, icons, library, tally};
+use oracle::{answer, canvas, case, icons, library, rules, tally};
 
 /// Differences printed in full; the rest are only counted.
 const SHOWN: u64 = 5;

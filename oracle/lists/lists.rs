@@ -14,18 +14,19 @@ mod oracle {
     pub mod icons;
     pub mod library;
     pub mod random;
+    pub mod rules;
     pub mod tally;
 }
 mod sides;
 
 use std::process::ExitCode;
 
-use oracle::{answer, canvas, case, icons, tally};
+use oracle::{answer, canvas, case, icons, rules, tally};
 
 use answer::{landed, refusal};
 use case::{Call, Case, Screen};
 use oracle::library::{Answer, ours};
-use oracle::random::Chance;
+use oracle::random::{Chance, ROWS, RULES};
 use sides::{Marks, rust};
 
 /// The calls that plot or draw an image, and inversion as often as two of them.
@@ -44,17 +45,20 @@ struct List {
 }
 
 impl List {
-    /// In four of ten rows have tails, and images likewise. Rows are by another chance, so that a seed's calls stay the same.
+    /// In four of ten rows have tails, and images likewise; in four of ten the canvas has rule 2, which XOR knows nothing of, and
+    /// images have rules as those of random cases. Both are by chances of their own, so that a seed's calls stay the same.
     fn random(chance: &mut Chance) -> List {
-        let mut rows = chance.apart();
+        let (mut rows, mut rules) = (chance.apart(ROWS), chance.apart(RULES));
         let (format, w, h) = (chance.from(0, 4), side(chance), side(chance));
         let row = if rows.from(1, 10) <= 4 { format!(" row={}", w + rows.from(1, 9)) } else { String::new() };
-        let head = format!("{format} {w} {h} 1 {}{row}", chance.from(0, u32::MAX.into()));
+        let rule = if rules.from(1, 10) <= 4 { " rule=2" } else { "" };
+        let head = format!("{format} {w} {h} 1 {}{row}{rule}", chance.from(0, u32::MAX.into()));
         let order: Vec<usize> = (0..chance.from(2, 12) as usize).collect();
         let line = |_: &usize| {
             let op = chance.pick(&OPS);
             let args = chance.args(op, w, h);
-            format!("{head} {op} {}", if op == "draw" { rows.with_image_row(&args) } else { args })
+            let args = if op == "draw" { rules.with_image_rule(&rows.with_image_row(&args)) } else { args };
+            format!("{head} {op} {args}")
         };
         let lines: Vec<String> = order.iter().map(line).collect();
         let cases: Vec<Case> = lines.iter().map(|line| Case::read(line.as_bytes()).expect("a case")).collect();
@@ -139,6 +143,8 @@ struct Tally {
     stained: u64,
     /// Lists on rows with tails.
     tailed: u64,
+    /// Lists on a canvas with rule 2.
+    ruled: u64,
 }
 
 impl Tally {
@@ -156,6 +162,7 @@ impl Tally {
         let settled = list.settled();
         self.count(&expected, first != *bytes, settled != *bytes);
         self.tailed += (list.screen.row > list.screen.width) as u64;
+        self.ruled += (list.screen.rule == 2) as u64;
         let tails_kept = list.screen.put_back(&list.screen_of(&first).cut_out()) == first;
         hold(tails_kept, "ours changes a tail")?;
         hold(first == theirs, "ours leaves other bytes than the Rust")?;
@@ -174,10 +181,11 @@ impl Tally {
     }
 
     fn say(&self, seed: u64, failed: u64) {
-        let Tally { lists, calls, refused, plots, seen, stained, tailed } = self;
+        let Tally { lists, calls, refused, plots, seen, stained, tailed, ruled } = self;
         println!(
-            "{lists} lists (seed {seed}) in two orders and twice, {tailed} of them on rows with tails: {calls} calls, {refused} \
-             of them refused, {plots} plots landed, {seen} lists seen, {stained} leave a stain; {failed} lists fail"
+            "{lists} lists (seed {seed}) in two orders and twice, {tailed} of them on rows with tails and {ruled} by rule 2: \
+             {calls} calls, {refused} of them refused, {plots} plots landed, {seen} lists seen, {stained} leave a stain; {failed} \
+             lists fail"
         );
     }
 }

@@ -10,6 +10,7 @@ use crate::canvas::{
 };
 use crate::case::{Area, Call, Case, Screen, pixel_size};
 use crate::icons::{number, place};
+use crate::rules;
 use crate::tally::Tally;
 
 /// `bad` for a line that cannot be read, and `panic` where the Rust panics.
@@ -38,7 +39,12 @@ fn answered(case: &Case) -> String {
     }
     let mut canvas = canvas(screen);
     canvas.set_xor_mode(*xor);
-    paint(&mut *canvas, call);
+    match *call {
+        Call::Draw { at: Area(dx, dy, w, h), ref source, from: (sx, sy), clip } if screen.rule == 2 && !xor => {
+            rules::draw(&mut *canvas, dx, dy, w, h, self::canvas(source).image(), sx, sy, clip)
+        }
+        _ => paint(&mut *canvas, call),
+    }
     format!("{op} status=0 count={} hash={:016x}", landed(screen, call), hash(&screen.put_back(&canvas.image().raw())))
 }
 
@@ -50,6 +56,7 @@ pub fn landed(screen: &Screen, call: &Call) -> u64 {
     canvas.into_inner().landed
 }
 
+/// By the Rust's own call, whose blend is rule 1.
 pub fn paint(canvas: &mut dyn Canvas, call: &Call) {
     match *call {
         Call::Put { x, y, color, clip } => canvas.put_pixel(x, y, color, clip),
@@ -113,14 +120,17 @@ fn canvas_of<P: PixelType + 'static>(screen: &Screen) -> Box<dyn Canvas> {
     Box::new(ImageBufferCanvas::new(VecImageBuffer::<P>::from_raw(screen.width, screen.height, words)))
 }
 
-/// The refusals have no counterpart in the Rust: the first that holds, in the order FORMAT, SIZE, ROW, LENGTH, SOURCE, ANGLE,
-/// SHAPE.
+/// The refusals have no counterpart in the Rust: the first that holds, in the order FORMAT, RULE, SIZE, ROW, LENGTH, SOURCE,
+/// ANGLE, SHAPE.
 pub fn refusal(screen: &Screen, call: &Call) -> u32 {
     let side = |n: u32| n <= 32_767;
     let corner = |n: i32| (-32_768..=32_767).contains(&n);
     let angle = |n: i32| (-720..=720).contains(&n);
     let of_screen = |s: &Screen| {
         let Some(size) = pixel_size(s.format) else { return 1 };
+        if s.rule != 1 && s.rule != 2 {
+            return 23;
+        }
         if !side(s.width) || !side(s.height) {
             return 2;
         }

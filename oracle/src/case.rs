@@ -16,6 +16,8 @@ pub struct Screen {
     pub height: u32,
     /// The length of a row in pixels. What it has beyond the width is its tail.
     pub row: u32,
+    /// The blending rule.
+    pub rule: u32,
     pub bytes: Vec<u8>,
 }
 
@@ -126,10 +128,11 @@ impl<'a, I: Iterator<Item = &'a [u8]>> Words<'a, I> {
         })
     }
 
-    /// The screen whose seed is the next word, and whose row the one behind it, if that is a row.
+    /// The screen whose seed is the next word, with its row and its rule behind that, where there are such words.
     fn screen(&mut self, format: u32, width: u32, height: u32) -> Option<Screen> {
         let seed = self.0.next()?;
-        let row = self.row().unwrap_or(width);
+        let row = self.named(b"row=").unwrap_or(width);
+        let rule = self.named(b"rule=").unwrap_or(1);
         let bytes = match seed {
             [b'x', digits @ ..] => hex(digits)?,
             b"z" => vec![0; room(format, row, height)?],
@@ -142,14 +145,14 @@ impl<'a, I: Iterator<Item = &'a [u8]>> Words<'a, I> {
                 (0..room(format, row, height)?).map(step).collect()
             }
         };
-        (bytes.len() as u128 <= ROOM).then_some(Screen { format, width, height, row, bytes })
+        (bytes.len() as u128 <= ROOM).then_some(Screen { format, width, height, row, rule, bytes })
     }
 
-    /// The number of `row=N`. What is no such word is left.
-    fn row(&mut self) -> Option<u32> {
-        let row = decimal(self.0.peek()?.strip_prefix(b"row=")?)? as u32;
+    /// The number of a word that begins so, `row=N` or `rule=N`. What is no such word is left.
+    fn named(&mut self, name: &[u8]) -> Option<u32> {
+        let number = decimal(self.0.peek()?.strip_prefix(name)?)? as u32;
         self.0.next();
-        Some(row)
+        Some(number)
     }
 
     /// A file's bytes.

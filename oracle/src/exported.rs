@@ -10,6 +10,7 @@ pub struct Canvas {
     pub height: u32,
     pub xor_mode: u32,
     pub row: u32,
+    pub rule: u32,
 }
 
 #[repr(C)]

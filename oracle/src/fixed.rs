@@ -1,5 +1,5 @@
-//! The fixed list of cases: the edges first and in order, then the colours, then some random ones; and behind them rows of other
-//! lengths than the width.
+//! The fixed list of cases: the edges first and in order, then the colours, then some random ones; behind them rows of other
+//! lengths than the width, and behind these blending rules.
 
 mod boxes;
 mod curves;
@@ -8,6 +8,7 @@ mod icons;
 mod images;
 mod lines;
 mod rows;
+mod rules;
 
 use std::collections::HashSet;
 
@@ -57,6 +58,7 @@ pub fn fixed(ops: &[&'static str]) -> Vec<String> {
     unreadable(&mut list);
     list.extend(Cases::new(300, 1, ops).filter(|case| case.len() <= 200));
     rows::rows(ops, &mut list);
+    rules::rules(ops, &mut list);
     let mut seen = HashSet::new();
     list.retain(|case| seen.insert(case.clone()));
     list

@@ -9,8 +9,8 @@ pub type Answer = (u32, u64);
 
 /// A call by the static library.
 pub fn ours(screen: &mut Screen, xor: bool, call: &Call) -> Answer {
-    let Screen { format, width, height, row, ref mut bytes } = *screen;
-    let canvas = &Canvas { format, width, height, xor_mode: xor.into(), row };
+    let Screen { format, width, height, row, rule, ref mut bytes } = *screen;
+    let canvas = &Canvas { format, width, height, xor_mode: xor.into(), row, rule };
     let (data, length, mut drawn) = (bytes.as_mut_ptr(), bytes.len(), Drawn { landed: 77 });
     let d = &mut drawn;
     let status = unsafe {
@@ -41,8 +41,8 @@ pub fn ours(screen: &mut Screen, xor: bool, call: &Call) -> Answer {
                 tuyrashka_invert_rect(canvas, data, length, x, y, w, h, &part(clip), d)
             }
             Call::Draw { at: Area(dx, dy, w, h), ref source, from: (sx, sy), clip } => {
-                let Screen { format, width, height, row, bytes: ref image } = *source;
-                let source = Canvas { format, width, height, xor_mode: xor.into(), row };
+                let Screen { format, width, height, row, rule, bytes: ref image } = *source;
+                let source = Canvas { format, width, height, xor_mode: xor.into(), row, rule };
                 let (image, image_length) = (image.as_ptr(), image.len());
                 tuyrashka_draw(canvas, data, length, dx, dy, w, h, &source, image, image_length, sx, sy, &part(clip), d)
             }

@@ -16,6 +16,7 @@ mod edges;
 mod fixed;
 mod icons;
 mod random;
+mod rules;
 mod tally;
 
 use std::io::{self, BufRead, BufWriter, Write, stdin, stdout};
@@ -26,11 +27,11 @@ fn main() -> ExitCode {
     let words: Vec<&str> = words.iter().map(String::as_str).collect();
     match words[..] {
         [] => answers(),
-        ["random", n, seed, list] => write(random::Cases::new(number(n), number(seed), &ops(list)).with_rows()),
+        ["random", n, seed, list] => write(random(n, seed, list)),
         ["fixed", list] => write(fixed::fixed(&ops(list)).into_iter()),
         ["edges", reach] => write(edges::cases(number(reach) as i64)),
         ["compare", "random", n, seed, list, port, checked, unchecked] => {
-            let cases = || random::Cases::new(number(n), number(seed), &ops(list)).with_rows();
+            let cases = || random(n, seed, list);
             return compare(&format!("cases of {list} (seed {seed})"), cases, [port, checked, unchecked]);
         }
         ["compare", "edges", reach, port, checked, unchecked] => {
@@ -42,6 +43,10 @@ fn main() -> ExitCode {
     }
     .unwrap_or_else(|error| stop(&format!("not written: {error}")));
     ExitCode::SUCCESS
+}
+
+fn random(n: &str, seed: &str, list: &str) -> random::Cases {
+    random::Cases::new(number(n), number(seed), &ops(list)).with_rows().with_rules()
 }
 
 fn compare<C>(what: &str, cases: impl Fn() -> C, programs: [&str; 3]) -> ExitCode

@@ -4,6 +4,7 @@ mod curves;
 mod icons;
 mod lines;
 mod rows;
+mod rules;
 
 use crate::case::pixel_size;
 
@@ -15,23 +16,33 @@ const MAX: i64 = i32::MAX as i64;
 const MOST: i64 = u32::MAX as i64;
 const HALF: i64 = 1 << 31;
 
+/// The chances apart.
+pub const ROWS: u64 = u64::MAX;
+pub const RULES: u64 = 0x5555_5555_5555_5555;
+
 /// The cases that a seed gives, the same in each run.
 pub struct Cases {
     chance: Chance,
-    /// What rows are by, where there are any.
+    /// What rows are by, where there are any, and rules.
     rows: Option<Chance>,
+    rules: Option<Chance>,
     ops: Vec<&'static str>,
     left: u64,
 }
 
 impl Cases {
     pub fn new(n: u64, seed: u64, ops: &[&'static str]) -> Cases {
-        Cases { chance: Chance(seed), rows: None, ops: ops.to_vec(), left: n }
+        Cases { chance: Chance(seed), rows: None, rules: None, ops: ops.to_vec(), left: n }
     }
 
     /// The same cases, with rows in a good part of them.
     pub fn with_rows(self) -> Cases {
-        Cases { rows: Some(self.chance.apart()), ..self }
+        Cases { rows: Some(self.chance.apart(ROWS)), ..self }
+    }
+
+    /// The same cases, with rules in a good part of them.
+    pub fn with_rules(self) -> Cases {
+        Cases { rules: Some(self.chance.apart(RULES)), ..self }
     }
 }
 
@@ -44,6 +55,9 @@ impl Iterator for Cases {
         let mut line = self.chance.case(op);
         if let Some(rows) = &mut self.rows {
             line = rows.with_rows(&line);
+        }
+        if let Some(rules) = &mut self.rules {
+            line = rules.with_rules(&line);
         }
         if self.chance.percent(1) {
             self.chance.spoil(&mut line);
@@ -68,9 +82,9 @@ impl Chance {
         z ^ (z >> 31)
     }
 
-    /// Another one, which takes nothing from this.
-    pub fn apart(&self) -> Chance {
-        Chance(!self.0)
+    /// Another one, which takes nothing from this: that of rows or that of rules.
+    pub fn apart(&self, mask: u64) -> Chance {
+        Chance(self.0 ^ mask)
     }
 
     /// From a to b, both included.

@@ -4,15 +4,15 @@ use core::fmt::{Debug, Formatter, Result as Written};
 
 use super::raw::{self, Record};
 use super::refusal::result;
-use super::{Clip, Color, Drawn, Format, Image, Refusal};
+use super::{Clip, Color, Drawn, Format, Image, Refusal, Rule};
 
-/// Lent bytes, seen as width times height pixels in rows, with a switch for XOR.
+/// Lent bytes, seen as width times height pixels in rows, with a switch for XOR and a blending rule.
 ///
 /// A row may be longer than the width ([`Canvas::with_row`]). What it has beyond that is its tail, which stays as it is in every
 /// call; a point there is off the canvas.
 ///
 /// With XOR off a plot stores its colour. With XOR on a colour of alpha 0 changes nothing, and any other is XORed with the
-/// pixel; formats with alpha then have alpha 255.
+/// pixel; formats with alpha then have alpha 255. The [`Rule`] is that of [`Canvas::draw`] with XOR off, and of nothing else.
 ///
 /// Each call judges the canvas, and is refused by [`Refusal::Size`], [`Refusal::Row`] or [`Refusal::Length`]. [`Canvas::draw`]
 /// then judges the image ([`Refusal::Source`]), arcs and pies their angles ([`Refusal::Angle`]), and these and round boxes their
@@ -34,13 +34,14 @@ pub struct Canvas<'a> {
 }
 
 impl<'a> Canvas<'a> {
-    /// A canvas of these bytes, with XOR off. Whether they are as many as its pixels take is judged by each call.
+    /// A canvas of these bytes, with XOR off and [`Rule::Down`]. Whether they are as many as its pixels take is judged by each
+    /// call.
     pub const fn new(format: Format, width: u32, height: u32, data: &'a mut [u8]) -> Canvas<'a> {
         Canvas::with_row(format, width, height, width, data)
     }
 
-    /// A canvas of these bytes, with XOR off, whose rows are `row` pixels long. Whether that is the width or more is judged by
-    /// each call. The bytes are those of `row` times `height` pixels.
+    /// A canvas of these bytes, with XOR off and [`Rule::Down`], whose rows are `row` pixels long. Whether that is the width or
+    /// more is judged by each call. The bytes are those of `row` times `height` pixels.
     ///
     /// ```
     /// use tuyrashka::{Canvas, Clip, Color, Format};
@@ -53,7 +54,7 @@ impl<'a> Canvas<'a> {
     /// # Ok::<(), tuyrashka::Refusal>(())
     /// ```
     pub const fn with_row(format: Format, width: u32, height: u32, row: u32, data: &'a mut [u8]) -> Canvas<'a> {
-        Canvas { record: Record { format, width, height, xor_mode: 0, row }, data }
+        Canvas { record: Record { format, width, height, xor_mode: 0, row, rule: Rule::Down }, data }
     }
 
     /// How a pixel is stored.
@@ -84,6 +85,16 @@ impl<'a> Canvas<'a> {
     /// Switches XOR on or off.
     pub const fn set_xor(&mut self, on: bool) {
         self.record.xor_mode = on as u32;
+    }
+
+    /// The blending rule.
+    pub const fn rule(&self) -> Rule {
+        self.record.rule
+    }
+
+    /// Takes another blending rule.
+    pub const fn set_rule(&mut self, rule: Rule) {
+        self.record.rule = rule;
     }
 
     /// The bytes of the pixels, with those of the tails.
@@ -160,8 +171,8 @@ calls! {
 impl Canvas<'_> {
     /// Draws the box at `(sx, sy)` of an image at `(dx, dy)`. Points that come from off the image are left out.
     ///
-    /// With XOR off a pixel of alpha 255 is stored, and any other is blended with the one below. With XOR on alpha 0 changes
-    /// nothing, and any other scales the channels before the XOR.
+    /// With XOR off a pixel of alpha 255 is stored, and any other is blended with the one below by the canvas's [`Rule`]; the
+    /// image's says nothing. With XOR on alpha 0 changes nothing, and any other scales the channels before the XOR.
     pub fn draw(
         &mut self, dx: i32, dy: i32, w: u32, h: u32, source: Image, sx: i32, sy: i32, clip: Clip,
     ) -> Result<Drawn, Refusal> {
@@ -180,9 +191,9 @@ impl Canvas<'_> {
 /// Without the bytes: of them, how many there are.
 impl Debug for Canvas<'_> {
     fn fmt(&self, f: &mut Formatter) -> Written {
-        let Record { format, width, height, row, .. } = &self.record;
+        let Record { format, width, height, row, rule, .. } = &self.record;
         let mut canvas = f.debug_struct("Canvas");
         canvas.field("format", format).field("width", width).field("height", height).field("row", row);
-        canvas.field("xor", &self.xor()).field("bytes", &self.data.len()).finish()
+        canvas.field("xor", &self.xor()).field("rule", rule).field("bytes", &self.data.len()).finish()
     }
 }

@@ -5,7 +5,7 @@ use core::slice::from_raw_parts;
 
 use super::raw::{self, Record};
 use super::refusal::result;
-use super::{Color, Format, Refusal};
+use super::{Color, Format, Refusal, Rule};
 
 /// Lent bytes that are only read, seen as width times height pixels in rows, which may have tails as those of a
 /// [`Canvas`](super::Canvas) may.
@@ -35,7 +35,7 @@ impl<'a> Image<'a> {
 
     /// An image of these bytes, whose rows are `row` pixels long. Whether that is the width or more is judged likewise.
     pub const fn with_row(format: Format, width: u32, height: u32, row: u32, data: &'a [u8]) -> Image<'a> {
-        Image { record: Record { format, width, height, xor_mode: 0, row }, data }
+        Image { record: Record { format, width, height, xor_mode: 0, row, rule: Rule::Down }, data }
     }
 
     /// An image of ARGB words, as [`decode_lbmp`](super::decode_lbmp) writes them.

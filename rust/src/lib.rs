@@ -34,6 +34,7 @@ mod format;
 mod image;
 mod raw;
 mod refusal;
+mod rule;
 
 pub use self::canvas::Canvas;
 pub use self::color::Color;
@@ -42,3 +43,4 @@ pub use self::format::Format;
 pub use self::image::Image;
 pub use self::raw::{Clip, Drawn};
 pub use self::refusal::Refusal;
+pub use self::rule::Rule;

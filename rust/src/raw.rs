@@ -1,6 +1,6 @@
 //! What `include/tuyrashka.h` declares. A record is handed over by a reference, lent bytes by pointer and length.
 
-use super::Format;
+use super::{Format, Rule};
 
 /// A canvas, beside its bytes.
 #[derive(Clone, Copy, PartialEq, Eq)]
@@ -11,6 +11,7 @@ pub struct Record {
     pub height: u32,
     pub xor_mode: u32,
     pub row: u32,
+    pub rule: Rule,
 }
 
 /// What a call may touch: columns from `x` up to but not including `x + width`, and rows likewise, without wrap. It may lie

@@ -56,6 +56,7 @@ refusals! {
     ResType = 15, "the type of an icon is not 2 or 3";
     NoIcon = 16, "the RES file ends before a static icon";
     Row = 18, "the row of the canvas is below its width or above 32,767";
+    Rule = 23, "there is no such blending rule";
 }
 
 impl Refusal {

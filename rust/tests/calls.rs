@@ -6,12 +6,13 @@ use std::error::Error;
 use std::ops::Range;
 
 use tuyrashka::Format::{Abgr, Argb, Rgb8, Rgb332, Rgb565};
-use tuyrashka::{Canvas, Clip, Color, Drawn, Format, Image, Refusal, decode_lbmp, decode_res};
+use tuyrashka::{Canvas, Clip, Color, Drawn, Format, Image, Refusal, Rule, decode_lbmp, decode_res};
 
 type Answer = Result<Drawn, Refusal>;
 
 const WHITE: Color = Color::rgb(255, 255, 255);
 const FORMATS: [Format; 5] = [Rgb332, Rgb565, Rgb8, Argb, Abgr];
+const RULES: [Rule; 2] = [Rule::Down, Rule::Nearest];
 
 fn landed(answer: Answer) -> Result<u64, Refusal> {
     answer.map(|drawn| drawn.landed)
@@ -186,6 +187,69 @@ fn an_image_is_blended() {
     }
 }
 
+/// White at alpha 125 over white is 254 by rule 1 and stays white by rule 2, with alpha 255 by both; the XOR is the same.
+#[test]
+fn an_image_is_blended_by_the_rule_of_the_canvas() {
+    let drawn = |rule, xor, source: Image| {
+        let mut data = 0x00FF_FFFF_u32.to_le_bytes();
+        let mut canvas = Canvas::new(Argb, 1, 1, &mut data);
+        assert_eq!(canvas.rule(), Rule::Down);
+        canvas.set_rule(rule);
+        canvas.set_xor(xor);
+        assert_eq!((canvas.rule(), landed(canvas.draw(0, 0, 1, 1, source, 0, 0, ALL))), (rule, Ok(1)));
+        u32::from_le_bytes(data)
+    };
+    for other in RULES {
+        let mut above = 0x7DFF_FFFF_u32.to_le_bytes();
+        let mut source = Canvas::new(Argb, 1, 1, &mut above);
+        source.set_rule(other);
+        assert_eq!(RULES.map(|rule| drawn(rule, false, source.image())), [0xFFFE_FEFE, 0xFFFF_FFFF]);
+        assert_eq!(RULES.map(|rule| drawn(rule, true, source.image())), [0xFF82_8282; 2]);
+    }
+    let opaque = |rule| drawn(rule, false, Image::from_argb(1, 1, &[0xFF01_0203]));
+    assert_eq!(RULES.map(opaque), [0xFF01_0203; 2]);
+    let clear = |rule| drawn(rule, false, Image::from_argb(1, 1, &[0x0001_0203]));
+    assert_eq!(RULES.map(clear), [0xFFFF_FFFF; 2]);
+}
+
+/// By rule 2 each channel is the level that is nearest to c*a + bg*(255-a), in 255ths, of whole numbers.
+#[test]
+fn rule_2_takes_the_nearest_level() {
+    for (c, below) in [(0, 255), (255, 0), (200, 100), (7, 7), (1, 2), (255, 254)] {
+        let words: Vec<u32> = (0..256).map(|a| a << 24 | c << 16 | below << 8 | c).collect();
+        let mut data = (0xFF00_0000 | below << 16 | c << 8 | below).to_le_bytes().repeat(256);
+        let mut canvas = Canvas::new(Argb, 256, 1, &mut data);
+        canvas.set_rule(Rule::Nearest);
+        assert_eq!(landed(canvas.draw(0, 0, 256, 1, Image::from_argb(256, 1, &words), 0, 0, ALL)), Ok(256));
+        for a in 0..256 {
+            let level = |c: u32, below: u32| {
+                let sum = (c * a + below * (255 - a)) as i32;
+                (0..=255).min_by_key(|level| (255 * level - sum).abs()).unwrap() as u8
+            };
+            let blended = Color::rgb(level(c, below), level(below, c), level(c, below));
+            assert_eq!(canvas.get_pixel(a as i32, 0), Ok(Some(blended)), "{c} over {below} at {a}");
+        }
+    }
+}
+
+/// Every call but `draw` with XOR off leaves the same bytes by either rule, and so does reading.
+#[test]
+fn a_rule_is_of_blending_alone() {
+    for (format, xor) in FORMATS.into_iter().flat_map(|format| [(format, false), (format, true)]) {
+        for (n, call) in WIDE.into_iter().enumerate() {
+            let drawn = RULES.map(|rule| {
+                let mut data = noise(format.bytes(9, 7));
+                let mut canvas = Canvas::new(format, 9, 7, &mut data);
+                canvas.set_xor(xor);
+                canvas.set_rule(rule);
+                let answer = landed(call(&mut canvas));
+                (answer, canvas.get_pixel(8, 6), canvas.data().to_vec())
+            });
+            assert!(n == 10 && !xor || drawn[0] == drawn[1], "{format:?}, XOR {xor}, call {n}");
+        }
+    }
+}
+
 #[test]
 fn a_canvas_is_drawn_on_another() {
     let (mut below, mut above) = ([0; 4], [1, 2, 3, 4]);
@@ -210,7 +274,7 @@ fn clips_are_intersected() {
 fn values_are_shown() {
     let mut data = [0; 8];
     let shown = format!("{:?}", Canvas::new(Rgb565, 2, 2, &mut data));
-    assert_eq!(shown, "Canvas { format: Rgb565, width: 2, height: 2, row: 2, xor: false, bytes: 8 }");
+    assert_eq!(shown, "Canvas { format: Rgb565, width: 2, height: 2, row: 2, xor: false, rule: Down, bytes: 8 }");
     let shown = format!("{:?}", Image::with_row(Rgb332, 0, 3, 1, &[7; 3]));
     assert_eq!(shown, "Image { format: Rgb332, width: 0, height: 3, row: 1, bytes: 3 }");
     assert_eq!(format!("{:?}", Clip::new(-1, 0, 2, 3)), "Clip { x: -1, y: 0, width: 2, height: 3 }");
@@ -402,6 +466,15 @@ fn formats_have_their_numbers() {
     assert_eq!([5, u32::MAX].map(Format::try_from), [Err(Refusal::Format); 2]);
 }
 
+/// Nor do those that are no rule.
+#[test]
+fn rules_have_their_numbers() {
+    assert_eq!([1, 2].map(Rule::try_from), RULES.map(Ok));
+    assert_eq!(RULES.map(Rule::number), [1, 2]);
+    assert_eq!([0, 3, 257, u32::MAX].map(Rule::try_from), [Err(Refusal::Rule); 4]);
+    assert_eq!((Refusal::Rule.number(), Refusal::Rule.to_string()), (23, "there is no such blending rule".into()));
+}
+
 #[test]
 fn an_angle_is_refused() {
     let tried = |w, start, arc| {
@@ -517,8 +590,9 @@ fn the_header_has_the_same_numbers() {
         assert_eq!(defined(&name), Some(format!("{number}u").as_str()), "{name}");
     };
     FORMATS.iter().for_each(|format| same(format, format.number()));
-    use Refusal::{Angle, Depth, Invalid, Length, NoIcon, Res, ResType, Room, Row, Shape, Size, Source, Type};
-    let refusals = [Refusal::Format, Size, Length, Source, Angle, Shape, Invalid, Type, Room, Res, Depth, ResType, NoIcon, Row];
+    RULES.iter().for_each(|rule| same(rule, rule.number()));
+    use Refusal::{Angle, Depth, Format, Invalid, Length, NoIcon, Res, ResType, Room, Row, Rule, Shape, Size, Source, Type};
+    let refusals = [Format, Size, Length, Source, Angle, Shape, Invalid, Type, Room, Res, Depth, ResType, NoIcon, Row, Rule];
     refusals.iter().for_each(|refusal| same(refusal, refusal.number()));
     let version = option_env!("CARGO_PKG_VERSION").map(|version| format!("{version:?}"));
     assert!(version.is_none_or(|version| defined("TUYRASHKA_VERSION") == Some(version.as_str())));

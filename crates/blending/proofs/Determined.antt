@@ -33,7 +33,7 @@ read-colors-determined : (κs : _) (a : _) (s s' : _) (r r' : _) → read-colors
 read-colors-determined κs a s s' r r' p q = p ∙ sym q
 
 blend-words-determined :
-    (κs : _) (a : _) (s s' : _) (r r' : _) → blend-words.Post κs a r s → blend-words.Post κs a r' s' → now (s .1 .1 .1 .0) ≡ now (s' .1 .1 .1 .0)
+    (κs : _) (a : _) (s s' : _) (r r' : _) → blend-words.Post κs a r s → blend-words.Post κs a r' s' → now (s .1 .1 .1 .1 .0) ≡ now (s' .1 .1 .1 .1 .0)
 blend-words-determined κs a s s' r r' p q = p ∙ sym q
 
 store-words-determined :

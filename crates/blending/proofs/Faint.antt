@@ -12,7 +12,7 @@ use Rattle.words.specs.Format.{Format, rgb332, rgb565, rgb8, argb, abgr, none, 
 use Rattle.words.specs.Word.{color, fromColor}
 use Rattle.words.specs.Ink.{keepsAlpha, bare, xorColor, plotWord}
 use Rattle.words.proofs.Laws.{Channels, bare-fits}
-use Rattle.blending.specs.Blend.{part, scaled, blendWord}
+use Rattle.blending.specs.Blend.{part, scaled, flipWord}
 use Rattle.blending.specs.Inner.{faint}
 use Rattle.blending.proofs.Laws.{scaled-channels}
 
@@ -64,8 +64,8 @@ bare-word abgr c k = absurd (true≢false k)
 bare-word none c k = refl
 
 -- Where alpha is not kept.
-pub faint-flips : (f : Format) (c : Color) (w : ℕ) → keepsAlpha f ≡ false → bitXor w (fromColor f (faint c)) ≡ blendWord f true c w
-unfolding blendWord plotWord xorColor
+pub faint-flips : (f : Format) (c : Color) (w : ℕ) → keepsAlpha f ≡ false → bitXor w (fromColor f (faint c)) ≡ flipWord f c w
+unfolding plotWord xorColor
 faint-flips f c w k =
     go (eqb (c .a) 0) refl
     ∙ sym (ap (λ (a : ℕ). cond (eqb a 0) w (xorColor f w (scaled c))) (scaled-alpha c))
@@ -80,14 +80,14 @@ faint-flips f c w k =
         flips k = rw k
 
 -- Where it is.
-pub keeps-at-0 : (f : Format) (c : Color) (w : ℕ) → c .a ≡ 0 → w ≡ blendWord f true c w
-unfolding blendWord plotWord
+pub keeps-at-0 : (f : Format) (c : Color) (w : ℕ) → c .a ≡ 0 → w ≡ flipWord f c w
+unfolding plotWord
 keeps-at-0 f c w e = rw (scaled-alpha c, eq-eqb (c .a) 0 e)
 
 pub faint-solid :
     (f : Format) (c : Color) (w : ℕ) → keepsAlpha f ≡ true → Channels c → (c .a ≡ 0 → ⊥) →
-    4278190080 + bitXor w (fromColor f (faint c)) % 16777216 ≡ blendWord f true c w
-unfolding blendWord plotWord xorColor
+    4278190080 + bitXor w (fromColor f (faint c)) % 16777216 ≡ flipWord f c w
+unfolding plotWord xorColor
 faint-solid f c w k h n =
     let s = scaled-faint c n in
     rw (scaled-alpha c, ne-eqb (c .a) 0 n, k, ← s)

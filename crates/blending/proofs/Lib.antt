@@ -1,8 +1,11 @@
 pub mod Determined
+pub mod Errors
 pub mod Examples
 pub mod Faint
+pub mod Falls
 pub mod Held
 pub mod Laws
 pub mod Opaque
+pub mod Rules
 pub mod Runs
 pub mod Tops

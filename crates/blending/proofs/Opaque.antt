@@ -1,4 +1,5 @@
--- At alpha 255 the mixed channels are the colour's own, since its factor is 1 and the rest 0: so `over` needs no test of alpha.
+-- At alpha 255 the mixed channels are the colour's own under both rules, since its factor is 1 and the rest 0: so `over` needs no test
+-- of alpha.
 use mathlib.Core.Path.{_≡_, refl, sym, ap, _∙_}
 use mathlib.Core.Bool.{Bool, true, false, cond, true≢false}
 use Prim.Native.Nat.{ℕ, _+_, _*_, _/_, _<_}
@@ -15,7 +16,7 @@ use Rattle.floats.specs.Whole.{asU8}
 use Rattle.words.specs.declared.Color.{Color}
 use Rattle.words.specs.Word.{color}
 use Rattle.words.proofs.Laws.{Channels}
-use Rattle.blending.specs.Blend.{channel, factor, others, mix, over}
+use Rattle.blending.specs.Blend.{channel, factor, others, Rule, rule1, rule2, mix, over}
 use Rattle.blending.specs.Inner.{mixed}
 use Rattle.blending.proofs.Held.{channel-value}
 
@@ -61,42 +62,47 @@ cut-back (fin false m e) n h v =
     let q : m * up e / down e ≡ n = ap (λ (x : ℕ). x / down e) (sym (mul-one (m * up e)) ∙ v .1) ∙ mul-div-cancel n (down-pos e) in
     rw q (omega arith)
 
-pub mix-opaque : (c bg : ℕ) → c < 256 → bg < 256 → mix 255 c bg ≡ c
+whole : (c bg : ℕ) → (c * 255 + bg * 0 + 127) / 255 ≡ c
+whole c bg = omega arith
+
+pub mix-opaque : (k : Rule) (c bg : ℕ) → c < 256 → bg < 256 → mix k 255 c bg ≡ c
 unfolding mix ofInt
-mix-opaque c bg hc hb =
+mix-opaque rule2 c bg hc hb = whole c bg
+mix-opaque rule1 c bg hc hb =
     let v = channel-value c (omega arith) in
     rw (opaque-factor, opaque-others, by-one (channel c) c v, by-zero (channel bg) bg (channel-value bg (omega arith)), and-zero (channel c) c v)
     (cut-back (channel c) c hc v)
 
-own : (a c bg : ℕ) → a ≡ 255 → c < 256 → bg < 256 → c ≡ mix a c bg
-own a c bg e hc hb = rw e (sym (mix-opaque c bg hc hb))
+own : (k : Rule) (a c bg : ℕ) → a ≡ 255 → c < 256 → bg < 256 → c ≡ mix k a c bg
+own k a c bg e hc hb = rw e (sym (mix-opaque k c bg hc hb))
 
-fields : (c : Color) {a r g b : ℕ} → c .a ≡ a → c .r ≡ r → c .g ≡ g → c .b ≡ b → c ≡ color a r g b
+pub fields : (c : Color) {a r g b : ℕ} → c .a ≡ a → c .r ≡ r → c .g ≡ g → c .b ≡ b → c ≡ color a r g b
 fields c p q s t = rw (← p, ← q, ← s, ← t)
 
 over-mixed :
-    (c b : Color) → Channels c → Channels b →
-    over c b ≡ color 255 (mix (c .a) (c .r) (b .r)) (mix (c .a) (c .g) (b .g)) (mix (c .a) (c .b) (b .b))
+    (k : Rule) (c b : Color) → Channels c → Channels b →
+    over k c b ≡ color 255 (mix k (c .a) (c .r) (b .r)) (mix k (c .a) (c .g) (b .g)) (mix k (c .a) (c .b) (b .b))
 unfolding over
-over-mixed c b hc hb = go (eqb (c .a) 255) (eqb→eq (c .a) 255)
+over-mixed k c b hc hb = go (eqb (c .a) 255) (eqb→eq (c .a) 255)
   where
     whole : Color
-    whole = color 255 (mix (c .a) (c .r) (b .r)) (mix (c .a) (c .g) (b .g)) (mix (c .a) (c .b) (b .b))
+    whole = color 255 (mix k (c .a) (c .r) (b .r)) (mix k (c .a) (c .g) (b .g)) (mix k (c .a) (c .b) (b .b))
 
     go : (t : Bool) → (T t → c .a ≡ 255) → cond t c whole ≡ whole
     go true f =
         let e = f tt in
-        fields c e (own (c .a) (c .r) (b .r) e (hc .r) (hb .r)) (own (c .a) (c .g) (b .g) e (hc .g) (hb .g)) (own (c .a) (c .b) (b .b) e (hc .b) (hb .b))
+        fields c e (own k (c .a) (c .r) (b .r) e (hc .r) (hb .r)) (own k (c .a) (c .g) (b .g) e (hc .g) (hb .g)) (own k (c .a) (c .b) (b .b) e (hc .b) (hb .b))
     go false f = refl
 
--- What is mixed by the two factors of a colour's alpha is that colour over the other.
+-- What is mixed by a colour's alpha and its two factors is that colour over the other.
 pub mixed-over :
-    (c b : Color) → Channels c → Channels b → {p q : Float} {r g l : ℕ} → p ≡ factor (c .a) → q ≡ others (c .a) →
-    r ≡ mixed p q (c .r) (b .r) → g ≡ mixed p q (c .g) (b .g) → l ≡ mixed p q (c .b) (b .b) → color 255 r g l ≡ over c b
+    (k : Rule) (c b : Color) → Channels c → Channels b → {a : ℕ} {p q : Float} {r g l : ℕ} → a ≡ c .a → p ≡ factor (c .a) → q ≡ others (c .a) →
+    r ≡ mixed k a p q (c .r) (b .r) → g ≡ mixed k a p q (c .g) (b .g) → l ≡ mixed k a p q (c .b) (b .b) → color 255 r g l ≡ over k c b
 unfolding mixed mix
-mixed-over c b hc hb ep eq er eg el = rw (er, eg, el, ep, eq) (sym (over-mixed c b hc hb))
+mixed-over rule1 c b hc hb ea ep eq er eg el = rw (er, eg, el, ep, eq) (sym (over-mixed rule1 c b hc hb))
+mixed-over rule2 c b hc hb ea ep eq er eg el = rw (er, eg, el, ea) (sym (over-mixed rule2 c b hc hb))
 
 -- A background enters by its three channels alone.
-pub over-read : (c b d : Color) → b .r ≡ d .r → b .g ≡ d .g → b .b ≡ d .b → over c b ≡ over c d
+pub over-read : (k : Rule) (c b d : Color) → b .r ≡ d .r → b .g ≡ d .g → b .b ≡ d .b → over k c b ≡ over k c d
 unfolding over
-over-read c b d p q s = rw (p, q, s)
+over-read k c b d p q s = rw (p, q, s)

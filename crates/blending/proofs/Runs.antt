@@ -11,35 +11,36 @@ use lib.Seq.{take-all}
 use Rattle.words.specs.Format.{Format, argb, range}
 use Rattle.words.specs.Word.{fromColor, toColor, seen}
 use Rattle.words.proofs.Reading.{read-channels, read-store}
+use Rattle.blending.specs.Blend.{Rule}
 use Rattle.blending.specs.Loops.{read, argbOf, pairwise, draw, blended, store, stored}
 use Rattle.blending.proofs.Laws.{blend-keeps}
 
 -- ---- words beside others
 
-module _ (rule : ℕ → ℕ → ℕ) where
-  pub pairwise-length : (cs ws : List ℕ) → length (pairwise rule cs ws) ≡ length ws
+module _ (make : ℕ → ℕ → ℕ) where
+  pub pairwise-length : (cs ws : List ℕ) → length (pairwise make cs ws) ≡ length ws
   unfolding pairwise
   pairwise-length [] ws = refl
   pairwise-length (c ∷ cs) [] = refl
   pairwise-length (c ∷ cs) (w ∷ ws) = ap suc (pairwise-length cs ws)
 
-  pub pairwise-at : (cs ws : List ℕ) (i : ℕ) → i < length cs → i < length ws → getD (pairwise rule cs ws) i 0 ≡ rule (getD cs i 0) (getD ws i 0)
+  pub pairwise-at : (cs ws : List ℕ) (i : ℕ) → i < length cs → i < length ws → getD (pairwise make cs ws) i 0 ≡ make (getD cs i 0) (getD ws i 0)
   unfolding pairwise
   pairwise-at [] ws i h k = absurd (omega arith)
   pairwise-at (c ∷ cs) [] i h k = absurd (omega arith)
   pairwise-at (c ∷ cs) (w ∷ ws) zero h k = refl
   pairwise-at (c ∷ cs) (w ∷ ws) (suc i) h k = pairwise-at cs ws i (omega arith) (omega arith)
 
-  pub pairwise-past : (cs ws : List ℕ) (i : ℕ) → length cs ≤ i → getD (pairwise rule cs ws) i 0 ≡ getD ws i 0
+  pub pairwise-past : (cs ws : List ℕ) (i : ℕ) → length cs ≤ i → getD (pairwise make cs ws) i 0 ≡ getD ws i 0
   unfolding pairwise
   pairwise-past [] ws i h = refl
   pairwise-past (c ∷ cs) [] i h = refl
   pairwise-past (c ∷ cs) (w ∷ ws) zero h = absurd (omega arith)
   pairwise-past (c ∷ cs) (w ∷ ws) (suc i) h = pairwise-past cs ws i (omega arith)
 
-  -- What holds of every word before, and is kept by the rule, holds after.
+  -- What holds of every word before, and is kept, holds after.
   pub pairwise-keeps :
-      (P : ℕ → Type 0) → ((c w : ℕ) → P w → P (rule c w)) → (cs ws : List ℕ) → ((i : ℕ) → P (getD ws i 0)) → (i : ℕ) → P (getD (pairwise rule cs ws) i 0)
+      (P : ℕ → Type 0) → ((c w : ℕ) → P w → P (make c w)) → (cs ws : List ℕ) → ((i : ℕ) → P (getD ws i 0)) → (i : ℕ) → P (getD (pairwise make cs ws) i 0)
   unfolding pairwise
   pairwise-keeps P k [] ws h i = h i
   pairwise-keeps P k (c ∷ cs) [] h i = h i
@@ -48,25 +49,25 @@ module _ (rule : ℕ → ℕ → ℕ) where
 
   one-more :
       (cs ws : List ℕ) (i : ℕ) → i < length cs → i < length ws →
-      set (pairwise rule (take i cs) ws) i (rule (getD cs i 0) (getD ws i 0)) ≡ pairwise rule (take (suc i) cs) ws
+      set (pairwise make (take i cs) ws) i (make (getD cs i 0) (getD ws i 0)) ≡ pairwise make (take (suc i) cs) ws
   unfolding pairwise
   one-more [] ws i h k = absurd (omega arith)
   one-more (c ∷ cs) [] i h k = absurd (omega arith)
   one-more (c ∷ cs) (w ∷ ws) zero h k = refl
-  one-more (c ∷ cs) (w ∷ ws) (suc i) h k = ap (λ (t : List ℕ). rule c w ∷ t) (one-more cs ws i (omega arith) (omega arith))
+  one-more (c ∷ cs) (w ∷ ws) (suc i) h k = ap (λ (t : List ℕ). make c w ∷ t) (one-more cs ws i (omega arith) (omega arith))
 
-  enough : (cs ws : List ℕ) (n : ℕ) → length ws ≤ n → pairwise rule (take n cs) ws ≡ pairwise rule cs ws
+  enough : (cs ws : List ℕ) (n : ℕ) → length ws ≤ n → pairwise make (take n cs) ws ≡ pairwise make cs ws
   unfolding pairwise
   enough [] ws zero h = refl
   enough [] ws (suc n) h = refl
   enough (c ∷ cs) [] zero h = refl
   enough (c ∷ cs) [] (suc n) h = refl
   enough (c ∷ cs) (w ∷ ws) zero h = absurd (omega arith)
-  enough (c ∷ cs) (w ∷ ws) (suc n) h = ap (λ (t : List ℕ). rule c w ∷ t) (enough cs ws n (omega arith))
+  enough (c ∷ cs) (w ∷ ws) (suc n) h = ap (λ (t : List ℕ). make c w ∷ t) (enough cs ws n (omega arith))
 
   -- A loop that has made i words, and makes one more; and one that has made all.
   abbrev pub Made : List ℕ → List ℕ → ℕ → List ℕ → ℕ → Type 0
-  Made cs ws n ds i = (length ws ≡ length ds) × (i ≤ n) × (ds ≡ pairwise rule (take i cs) ws)
+  Made cs ws n ds i = (length ws ≡ length ds) × (i ≤ n) × (ds ≡ pairwise make (take i cs) ws)
 
   pub make-first : (cs ws : List ℕ) (n : ℕ) → Made cs ws n ws 0
   unfolding pairwise
@@ -74,23 +75,23 @@ module _ (rule : ℕ → ℕ → ℕ) where
 
   pub make-more :
       (cs ws : List ℕ) (n : ℕ) (ds : List ℕ) (i v : ℕ) → i < n → i < length cs → i < length ws → Made cs ws n ds i →
-      v ≡ rule (getD cs i 0) (getD ds i 0) → Made cs ws n (set ds i v) (i + 1)
+      v ≡ make (getD cs i 0) (getD ds i 0) → Made cs ws n (set ds i v) (i + 1)
   make-more cs ws n ds i v l h k m e =
       let short : length (take i cs) ≤ i = rw length-take (omega arith) in
       let old : getD ds i 0 ≡ getD ws i 0 = ap (λ (t : List ℕ). getD t i 0) (m .2) ∙ pairwise-past (take i cs) ws i short in (
         m .0 ∙ sym (length-set ds i v),
         omega arith,
-        ap (set ds i) (e ∙ ap (rule (getD cs i 0)) old)
-            ∙ ap (λ (t : List ℕ). set t i (rule (getD cs i 0) (getD ws i 0))) (m .2)
+        ap (set ds i) (e ∙ ap (make (getD cs i 0)) old)
+            ∙ ap (λ (t : List ℕ). set t i (make (getD cs i 0) (getD ws i 0))) (m .2)
             ∙ one-more cs ws i h k
-            ∙ ap (λ (j : ℕ). pairwise rule (take j cs) ws) (sym (add-one i)),
+            ∙ ap (λ (j : ℕ). pairwise make (take j cs) ws) (sym (add-one i)),
       )
 
-  pub made-all : (cs ws : List ℕ) (n : ℕ) (ds : List ℕ) (i : ℕ) → n ≡ min (length cs) (length ws) → n ≤ i → Made cs ws n ds i → ds ≡ pairwise rule cs ws
+  pub made-all : (cs ws : List ℕ) (n : ℕ) (ds : List ℕ) (i : ℕ) → n ≡ min (length cs) (length ws) → n ≤ i → Made cs ws n ds i → ds ≡ pairwise make cs ws
   made-all cs ws n ds i e h m = m .2 ∙ go (ltb (length cs) (length ws)) (ltb→lt (length cs) (length ws)) (nltb→le (length cs) (length ws))
     where
-      go : (b : Bool) → (T b → length cs < length ws) → (T (not b) → length ws ≤ length cs) → pairwise rule (take i cs) ws ≡ pairwise rule cs ws
-      go true f g = let p = f tt in ap (λ (t : List ℕ). pairwise rule t ws) (take-all i cs (omega arith))
+      go : (b : Bool) → (T b → length cs < length ws) → (T (not b) → length ws ≤ length cs) → pairwise make (take i cs) ws ≡ pairwise make cs ws
+      go true f g = let p = f tt in ap (λ (t : List ℕ). pairwise make t ws) (take-all i cs (omega arith))
       go false f g = let p = g tt in enough cs ws i (omega arith)
 
 -- ---- words read
@@ -119,26 +120,26 @@ argb-itself (w ∷ ws) h = rw (read-store argb w (h 0)) (ap (λ (t : List ℕ). 
 
 -- ---- words drawn on
 
-pub blended-length : (f : Format) (x : Bool) (cs ws : List ℕ) → length (blended f x cs ws) ≡ length ws
+pub blended-length : (f : Format) (k : Rule) (x : Bool) (cs ws : List ℕ) → length (blended f k x cs ws) ≡ length ws
 unfolding blended
-blended-length f x cs ws = pairwise-length (draw f x) cs ws
+blended-length f k x cs ws = pairwise-length (draw f k x) cs ws
 
 pub blended-at :
-    (f : Format) (x : Bool) (cs ws : List ℕ) (i : ℕ) → i < length cs → i < length ws →
-    getD (blended f x cs ws) i 0 ≡ draw f x (getD cs i 0) (getD ws i 0)
+    (f : Format) (k : Rule) (x : Bool) (cs ws : List ℕ) (i : ℕ) → i < length cs → i < length ws →
+    getD (blended f k x cs ws) i 0 ≡ draw f k x (getD cs i 0) (getD ws i 0)
 unfolding blended
-blended-at f x cs ws i h k = pairwise-at (draw f x) cs ws i h k
+blended-at f k x cs ws i h l = pairwise-at (draw f k x) cs ws i h l
 
-pub blended-past : (f : Format) (x : Bool) (cs ws : List ℕ) (i : ℕ) → length cs ≤ i → getD (blended f x cs ws) i 0 ≡ getD ws i 0
+pub blended-past : (f : Format) (k : Rule) (x : Bool) (cs ws : List ℕ) (i : ℕ) → length cs ≤ i → getD (blended f k x cs ws) i 0 ≡ getD ws i 0
 unfolding blended
-blended-past f x cs ws i h = pairwise-past (draw f x) cs ws i h
+blended-past f k x cs ws i h = pairwise-past (draw f k x) cs ws i h
 
 -- Words keep to their format's range.
 pub blended-keeps :
-    (f : Format) (x : Bool) (cs ws : List ℕ) → ((i : ℕ) → getD ws i 0 < range f) → (i : ℕ) → getD (blended f x cs ws) i 0 < range f
+    (f : Format) (k : Rule) (x : Bool) (cs ws : List ℕ) → ((i : ℕ) → getD ws i 0 < range f) → (i : ℕ) → getD (blended f k x cs ws) i 0 < range f
 unfolding blended
-blended-keeps f x cs ws =
-    pairwise-keeps (draw f x) (λ (w : ℕ). w < range f) (λ c w l. blend-keeps f x (toColor argb c) w (read-channels argb c) l) cs ws
+blended-keeps f k x cs ws =
+    pairwise-keeps (draw f k x) (λ (w : ℕ). w < range f) (λ c w l. blend-keeps f k x (toColor argb c) w (read-channels argb c) l) cs ws
 
 -- ---- words stored
 

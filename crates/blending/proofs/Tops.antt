@@ -11,7 +11,8 @@ use Rattle.words.specs.declared.Color.{Color}
 use Rattle.words.specs.Format.{rgb8, argb, abgr}
 use Rattle.words.specs.Word.{color, fromColor, toColor}
 use Rattle.words.proofs.Laws.{Channels}
-use Rattle.blending.specs.Blend.{mix, over, blendWord, setting}
+use Rattle.words.proofs.Reading.{read-channels}
+use Rattle.blending.specs.Blend.{Rule, mix, over, blendWord, setting}
 use Rattle.blending.proofs.Laws.{over-channels}
 use Rattle.blending.proofs.Opaque.{over-read}
 
@@ -36,54 +37,54 @@ module _ (x w : ℕ) (e : x % 16777216 ≡ w % 16777216) where
   byte2 : x / 65536 % 256 ≡ w / 65536 % 256
   byte2 = omega arith
 
-over-solid : (c b : Color) → over c b .a ≡ 255
+over-solid : (k : Rule) (c b : Color) → over k c b .a ≡ 255
 unfolding over
-over-solid c b = go (eqb (c .a) 255) (eqb→eq (c .a) 255)
+over-solid k c b = go (eqb (c .a) 255) (eqb→eq (c .a) 255)
   where
     go :
         (t : Bool) → (T t → c .a ≡ 255) →
-        cond t c (color 255 (mix (c .a) (c .r) (b .r)) (mix (c .a) (c .g) (b .g)) (mix (c .a) (c .b) (b .b))) .a ≡ 255
+        cond t c (color 255 (mix k (c .a) (c .r) (b .r)) (mix k (c .a) (c .g) (b .g)) (mix k (c .a) (c .b) (b .b))) .a ≡ 255
     go true f = f tt
     go false f = refl
 
--- Alpha's bits set on what a rule leaves of three bytes.
+-- Alpha's bits set on what a blend leaves of three bytes.
 set-solid : (v : ℕ) → bitOr (v % 16777216) 4278190080 ≡ 4278190080 + v % 16777216
 set-solid v = or-shifted-r 255 24 (v % 16777216) (mod-lt v (omega arith))
 
-colors : (c : Color) (w : ℕ) → over c (toColor argb w) ≡ over c (toColor rgb8 w)
+colors : (k : Rule) (c : Color) (w : ℕ) → over k c (toColor argb w) ≡ over k c (toColor rgb8 w)
 unfolding over toColor
-colors c w = refl
+colors k c w = refl
 
 -- ARGB and ABGR, with alpha's bits.
-pub set-argb : (c : Color) (w : ℕ) → Channels c → setting 4278190080 (blendWord argb false c) w ≡ blendWord argb false c w
+pub set-argb : (k : Rule) (c : Color) (w : ℕ) → Channels c → setting 4278190080 (blendWord argb k false c) w ≡ blendWord argb k false c w
 unfolding setting blendWord fromColor toColor
-set-argb c w h =
+set-argb k c w h =
     let x = bitOr w 4278190080 in
     let e = low-kept w in
-    let v = over c (toColor argb x) in
-    let k = over-channels c (toColor argb x) h in
+    let v = over k c (toColor argb x) in
+    let o = over-channels k c (toColor argb x) h (read-channels argb x) in
     set-solid (fromColor argb v)
-    ∙ solid (v .a) (v .r) (v .g) (v .b) (over-solid c (toColor argb x)) (k .r) (k .g) (k .b)
-    ∙ ap (fromColor argb) (over-read c (toColor argb x) (toColor argb w) (byte2 x w e) (byte1 x w e) (byte0 x w e))
+    ∙ solid (v .a) (v .r) (v .g) (v .b) (over-solid k c (toColor argb x)) (o .r) (o .g) (o .b)
+    ∙ ap (fromColor argb) (over-read k c (toColor argb x) (toColor argb w) (byte2 x w e) (byte1 x w e) (byte0 x w e))
 
-pub set-abgr : (c : Color) (w : ℕ) → Channels c → setting 4278190080 (blendWord abgr false c) w ≡ blendWord abgr false c w
+pub set-abgr : (k : Rule) (c : Color) (w : ℕ) → Channels c → setting 4278190080 (blendWord abgr k false c) w ≡ blendWord abgr k false c w
 unfolding setting blendWord fromColor toColor
-set-abgr c w h =
+set-abgr k c w h =
     let x = bitOr w 4278190080 in
     let e = low-kept w in
-    let v = over c (toColor abgr x) in
-    let k = over-channels c (toColor abgr x) h in
+    let v = over k c (toColor abgr x) in
+    let o = over-channels k c (toColor abgr x) h (read-channels abgr x) in
     set-solid (fromColor abgr v)
-    ∙ solid (v .a) (v .b) (v .g) (v .r) (over-solid c (toColor abgr x)) (k .b) (k .g) (k .r)
-    ∙ ap (fromColor abgr) (over-read c (toColor abgr x) (toColor abgr w) (byte0 x w e) (byte1 x w e) (byte2 x w e))
+    ∙ solid (v .a) (v .b) (v .g) (v .r) (over-solid k c (toColor abgr x)) (o .b) (o .g) (o .r)
+    ∙ ap (fromColor abgr) (over-read k c (toColor abgr x) (toColor abgr w) (byte0 x w e) (byte1 x w e) (byte2 x w e))
 
 -- Rgb8, with none.
-pub set-rgb8 : (c : Color) (w : ℕ) → Channels c → setting 0 (blendWord argb false c) w ≡ blendWord rgb8 false c w
+pub set-rgb8 : (k : Rule) (c : Color) (w : ℕ) → Channels c → setting 0 (blendWord argb k false c) w ≡ blendWord rgb8 k false c w
 unfolding setting blendWord fromColor
-set-rgb8 c w h =
+set-rgb8 k c w h =
     let x = bitOr w 0 in
-    let v = over c (toColor argb x) in
-    let k = over-channels c (toColor argb x) h in
+    let v = over k c (toColor argb x) in
+    let o = over-channels k c (toColor argb x) h (read-channels argb x) in
     or-zero-r (fromColor argb v % 16777216)
-    ∙ sym (under (v .a) (v .r) (v .g) (v .b) (k .r) (k .g) (k .b))
-    ∙ ap (fromColor rgb8) (ap (λ (y : ℕ). over c (toColor argb y)) (or-zero-r w) ∙ colors c w)
+    ∙ sym (under (v .a) (v .r) (v .g) (v .b) (o .r) (o .g) (o .b))
+    ∙ ap (fromColor rgb8) (ap (λ (y : ℕ). over k c (toColor argb y)) (or-zero-r w) ∙ colors k c w)

@@ -1,4 +1,4 @@
--- A float held to 0..255, what is mixed by two factors at hand, an ARGB word over three channels, and a colour scaled at any alpha.
+-- A float held to 0..255, what is mixed by an alpha and its two factors at hand, an ARGB word over three channels, and a colour scaled at any alpha.
 -- Only inner contracts cite these.
 use mathlib.Core.Path.{_≡_}
 use mathlib.Core.Bool.{cond, false}
@@ -10,7 +10,7 @@ use Rattle.floats.specs.Whole.{asU8}
 use Rattle.words.specs.Format.{argb}
 use Rattle.words.specs.declared.Color.{Color}
 use Rattle.words.specs.Word.{color, toColor}
-use Rattle.blending.specs.Blend.{part, channel, over}
+use Rattle.blending.specs.Blend.{part, channel, Rule, rule1, rule2, mix, over}
 use Rattle.blending.specs.declared.Mixed.{Mixed}
 
 abbrev pub most : Float
@@ -23,11 +23,12 @@ raised x = cond (lt plusZero x) x plusZero
 unfoldable pub lowered : Float → Float
 lowered x = cond (lt x most) x most
 
-unfoldable pub mixed : Float → Float → ℕ → ℕ → ℕ
-mixed p q c bg = asU8 (add binary32 (mul binary32 (channel c) p) (mul binary32 (channel bg) q))
+unfoldable pub mixed : Rule → ℕ → Float → Float → ℕ → ℕ → ℕ
+mixed rule1 a p q c bg = asU8 (add binary32 (mul binary32 (channel c) p) (mul binary32 (channel bg) q))
+mixed rule2 a p q c bg = mix rule2 a c bg
 
-pub record Laid (s x y z : ℕ) (m : Mixed) : Type 0 where
-  pub is : color 255 (m .r) (m .g) (m .b) ≡ over (toColor argb s) (color 255 (x % 256) (y % 256) (z % 256))
+pub record Laid (k : Rule) (s x y z : ℕ) (m : Mixed) : Type 0 where
+  pub is : color 255 (m .r) (m .g) (m .b) ≡ over k (toColor argb s) (color 255 (x % 256) (y % 256) (z % 256))
   pub red : m .r < 256
   pub green : m .g < 256
   pub blue : m .b < 256

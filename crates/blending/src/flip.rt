@@ -1,12 +1,11 @@
 // ARGB words drawn with XOR on.
 ghost use mathlib.Core.Path.{_≡_};
-ghost use mathlib.Core.Bool.{true};
 ghost use Prim.Native.Nat.{_≤_};
 ghost use Rattle.words.specs.Format.{formatOf, argb, abgr};
 ghost use Rattle.words.specs.Word.{fromColor, toColor};
-ghost use Rattle.blending.specs.Blend.{blendWord};
+ghost use Rattle.blending.specs.Blend.{flipWord};
 ghost use Rattle.blending.specs.Inner.{faint};
-ghost use Rattle.blending.specs.Loops.{blended};
+ghost use Rattle.blending.specs.Loops.{flipped};
 use crate::loops::shorter;
 use crate::part_of;
 use words::Color;
@@ -28,14 +27,14 @@ fn faint_word(format: u32, source: u32) -> u32
 // Where alpha is not kept.
 fn flip(format: u32, source: u32, raw: u32) -> u32
     requires { ⌜ format ≤ 2 ⌝ }
-    ensures { λ r. ⌜ r ≡ blendWord (formatOf format) true (toColor argb source) raw ⌝ }
+    ensures { λ r. ⌜ r ≡ flipWord (formatOf format) (toColor argb source) raw ⌝ }
 {
     raw ^ faint_word(format, source)
 }
 
 // Rgb8's word, where the bytes stand alike: ARGB's is taken for a turn of bytes, which costs a quarter more.
 fn flip_argb(source: u32, raw: u32) -> u32
-    ensures { λ r. ⌜ r ≡ blendWord argb true (toColor argb source) raw ⌝ }
+    ensures { λ r. ⌜ r ≡ flipWord argb (toColor argb source) raw ⌝ }
 {
     let word = faint_word(2, source);
     if source < 16777216 {
@@ -45,7 +44,7 @@ fn flip_argb(source: u32, raw: u32) -> u32
 }
 
 fn flip_abgr(source: u32, raw: u32) -> u32
-    ensures { λ r. ⌜ r ≡ blendWord abgr true (toColor argb source) raw ⌝ }
+    ensures { λ r. ⌜ r ≡ flipWord abgr (toColor argb source) raw ⌝ }
 {
     let word = faint_word(4, source);
     if source < 16777216 {
@@ -57,7 +56,7 @@ fn flip_abgr(source: u32, raw: u32) -> u32
 // An ARGB word over a word of any format.
 fn flipped(format: u32, source: u32, raw: u32) -> u32
     requires { ⌜ format ≤ 4 ⌝ }
-    ensures { λ r. ⌜ r ≡ blendWord (formatOf format) true (toColor argb source) raw ⌝ }
+    ensures { λ r. ⌜ r ≡ flipWord (formatOf format) (toColor argb source) raw ⌝ }
 {
     match format {
         3 => flip_argb(source, raw),
@@ -68,7 +67,7 @@ fn flipped(format: u32, source: u32, raw: u32) -> u32
 
 pub(crate) fn flips(format: u32, colors: &[u32], words: &mut [u32])
     requires { ⌜ format ≤ 4 ⌝ }
-    ensures { λ _. ⌜ now (words .exit) ≡ blended (formatOf format) true (now (colors .entry)) (now (words .entry)) ⌝ }
+    ensures { λ _. ⌜ now (words .exit) ≡ flipped (formatOf format) (now (colors .entry)) (now (words .entry)) ⌝ }
 {
     let n = shorter(colors.len(), words.len());
     let mut i = 0;

@@ -1,10 +1,10 @@
 // Runs of words: those that `draw` reads, and those that it draws on. The compiler takes the choice by format out of
-// these loops, but not out of XOR's, which is called with each number by itself.
+// these loops, but not out of XOR's, which is called with each number by itself, nor that by rule.
 ghost use mathlib.Core.Path.{_≡_};
-ghost use mathlib.Core.Bool.{true};
 ghost use Prim.Native.Nat.{_≤_, min};
 ghost use Rattle.words.specs.Format.{formatOf};
-ghost use Rattle.blending.specs.Loops.{argbOf, blended, stored};
+ghost use Rattle.blending.specs.Blend.{ruleOf};
+ghost use Rattle.blending.specs.Loops.{argbOf, blended, flipped, stored};
 use crate::flip;
 use crate::over;
 use crate::read::argb_of;
@@ -34,7 +34,7 @@ pub fn read_colors(format: u32, words: &mut [u32])
 // By a literal in each call the loop is made once for each format.
 fn flip_words(format: u32, colors: &[u32], words: &mut [u32])
     requires { ⌜ format ≤ 4 ⌝ }
-    ensures { λ _. ⌜ now (words .exit) ≡ blended (formatOf format) true (now (colors .entry)) (now (words .entry)) ⌝ }
+    ensures { λ _. ⌜ now (words .exit) ≡ flipped (formatOf format) (now (colors .entry)) (now (words .entry)) ⌝ }
 {
     match format {
         0 => flip::flips(0, colors, words),
@@ -46,14 +46,16 @@ fn flip_words(format: u32, colors: &[u32], words: &mut [u32])
 }
 
 // Draws each ARGB word over the word of a format beside it.
-pub fn blend_words(format: u32, xor: bool, colors: &[u32], words: &mut [u32])
+pub fn blend_words(format: u32, rule: u32, xor: bool, colors: &[u32], words: &mut [u32])
     requires { ⌜ format ≤ 4 ⌝ }
-    ensures { λ _. ⌜ now (words .exit) ≡ blended (formatOf format) xor (now (colors .entry)) (now (words .entry)) ⌝ }
+    ensures { λ _. ⌜ now (words .exit) ≡ blended (formatOf format) (ruleOf rule) xor (now (colors .entry)) (now (words .entry)) ⌝ }
 {
     if xor {
         flip_words(format, colors, words)
+    } else if rule == 2 {
+        over::overs_rule2(format, colors, words)
     } else {
-        over::overs(format, colors, words)
+        over::overs(format, 1, colors, words)
     }
 }
 

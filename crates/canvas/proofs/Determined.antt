@@ -7,7 +7,7 @@ use lib.Dec.{eqb}
 use denote.Ref.{now}
 use native.Mathlib.Omega.{arith}
 use Rattle.canvas.specs.declared.Refusal.{Refusal}
-use Rattle.canvas.specs.declared.Refusal.the-variants.{Format, Size, Length, Source, Angle, Shape, Row}
+use Rattle.canvas.specs.declared.Refusal.the-variants.{Format, Size, Length, Source, Angle, Shape, Row, Rule}
 use Rattle.canvas.specs.declared.Drawn.{Drawn}
 use Rattle.canvas.specs.declared.Drawn.the-variants.{Refused, Done}
 use Rattle.canvas.specs.declared.Tally.{Tally}
@@ -45,7 +45,10 @@ use Rattle.canvas.proofs.Drawn.count.Reads as count
 
 -- the refusal of a number
 unfoldable refusal : ℕ → Refusal
-refusal n = cond (eqb n 1) Format (cond (eqb n 2) Size (cond (eqb n 3) Length (cond (eqb n 4) Source (cond (eqb n 5) Angle (cond (eqb n 6) Shape Row)))))
+refusal n =
+    cond (eqb n 1) Format
+    (cond (eqb n 2) Size
+    (cond (eqb n 3) Length (cond (eqb n 4) Source (cond (eqb n 5) Angle (cond (eqb n 6) Shape (cond (eqb n 18) Row Rule))))))
 
 numbered : (r : Refusal) → refusal (number r) ≡ r
 unfolding number refusal
@@ -56,6 +59,7 @@ numbered Source = refl
 numbered Angle = refl
 numbered Shape = refl
 numbered Row = refl
+numbered Rule = refl
 
 same-number : (r s : Refusal) → number r ≡ number s → r ≡ s
 same-number r s e = sym (numbered r) ∙ ap refusal e ∙ numbered s
@@ -69,6 +73,7 @@ no-zero Source e = omega arith
 no-zero Angle e = omega arith
 no-zero Shape e = omega arith
 no-zero Row e = omega arith
+no-zero Rule e = omega arith
 
 same-drawn : (d e : Drawn) → statusOf d ≡ statusOf e → countOf d ≡ countOf e → d ≡ e
 unfolding statusOf countOf

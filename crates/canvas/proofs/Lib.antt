@@ -4,3 +4,4 @@ pub mod Determined
 pub mod Reverse
 pub mod Tails
 pub mod Pictures
+pub mod Rules

@@ -15,33 +15,25 @@ use Rattle.canvas.specs.declared.faults.Verdict.the-variants.{Sound, Fau
 use Rattle.pixels.specs.Bytes.{form, loadAt, storeAt, On}
 use Rattle.pixels.specs.Hits.{Hit, touch, paint}
 use Rattle.canvas.specs.Faults.{orElse, verdict}
-use Rattle.canvas.specs.Plot.{Plot, plot, Dye, plain, over, inverse, Dot, dip, onCanvas, fate, hitOf, keep, hits}
-use Rattle.canvas.specs.Call.{Call, shape, draw, clipOf, faultOf, dots, brush, plots}
+use Rattle.canvas.specs.Plot.{Plot, plot, Dye, plain, over, inverse, Dot, dip, fate, hits}
+use Rattle.canvas.specs.Call.{Call, shape, draw, clipOf, faultOf, dots, carried, brush, plots}
 use Rattle.canvas.specs.Calls.{after, unless, landings}
 use Rattle.pixels.proofs.bytes.Cells.{Bytes}
 use Rattle.pixels.proofs.bytes.Pixels.{load-lt, load-store, load-other}
 use Rattle.pixels.proofs.Orders.{Screen, touch-screen, All, none, also, all-append}
 use Rattle.canvas.proofs.faults.Verdicts.{sized}
 use Rattle.canvas.proofs.plot.Fates.{lands-on}
+use Rattle.canvas.proofs.plot.Sides.{Sided, AllSided, no-call, one-call, hits-sided, dots-sided}
 use Rattle.canvas.proofs.plot.Landed.{keep-all}
 use Rattle.canvas.proofs.Reverse.{Toned, Colored, Fine, end, then, Dots, no-more, and, every-dot, after-sound}
 
 -- the canvas with another row
 abbrev pub rowed : Canvas → ℕ → Canvas
-rowed v r = record { format = v .format; width = v .width; height = v .height; row = r; xor = v .xor }
+rowed v r = record { format = v .format; width = v .width; height = v .height; row = r; xor = v .xor; rule = v .rule }
 
 -- the same word at each pixel
 pub record Alike (v : Canvas) (b : List ℕ) (u : Canvas) (t : List ℕ) : Type 0 where
   pub same : (x y : ℕ) → On v x y → loadAt v b x y ≡ loadAt u t x y
-
--- a call that looks at a canvas's sides and not at its row, as all do
-abbrev pub Rowless : Call → Type 0
-Rowless (shape own points dye clip) = (v : Canvas) (r : ℕ) → points (rowed v r) ≡ points v
-Rowless (draw dx dy w h source image sx sy clip) = Unit {0}
-
-pub data AllRowless : List Call → Type 0 where
-  no-call : AllRowless []
-  one-call : {k : Call} {ks : List Call} → Rowless k → AllRowless ks → AllRowless (k ∷ ks)
 
 -- ---- hits
 
@@ -92,7 +84,7 @@ Keeping v d = (w : ℕ) → w < range (form v) → brush v d w < range (form v)
 
 keeping : (v : Canvas) (d : Dye) → Toned d → Keeping v d
 keeping v (plain c) h w l = plot-keeps (form v) (v .xor) c w h l
-keeping v (over c) h w l = blend-keeps (form v) (v .xor) c w h l
+keeping v (over c) h w l = blend-keeps (form v) (carried v) (v .xor) c w h l
 keeping v inverse h w l = stamps-keep (invert-stamps (form v)) w l
 
 call-keeping : (v : Canvas) (k : Call) → Colored k → Dots (Keeping v) (dots v k)
@@ -106,11 +98,6 @@ dots-kept v c (d ∷ ds) (and s ss) =
     keep-all (fate v c (plot (brush v (d .dye)) (d .x) (d .y))) _ (hits v c (dip (brush v) ds)) (λ e. record { on = lands-on v c _ e; keeps = s }) (dots-kept v c ds ss)
 
 module _ (v : Canvas) (r : ℕ) where
-  hits-rowed : (c : Clip) (ps : List Plot) → hits (rowed v r) c ps ≡ hits v c ps
-  unfolding hits fate onCanvas
-  hits-rowed c [] = refl
-  hits-rowed c (p ∷ ps) = ap (keep (fate v c p) (hitOf p)) (hits-rowed c ps)
-
   brush-rowed : (d : Dye) → brush (rowed v r) d ≡ brush v d
   brush-rowed (plain c) = refl
   brush-rowed (over c) = refl
@@ -121,17 +108,13 @@ module _ (v : Canvas) (r : ℕ) where
   dip-rowed [] = refl
   dip-rowed (d ∷ ds) = ap₂ (λ (f : ℕ → ℕ) (l : List Plot). plot f (d .x) (d .y) ∷ l) (brush-rowed (d .dye)) (dip-rowed ds)
 
-  dots-rowed : (k : Call) → Rowless k → dots (rowed v r) k ≡ dots v k
-  unfolding dots
-  dots-rowed (shape own points dye clip) e = rw (e v r) refl
-  dots-rowed (draw dx dy w h source image sx sy clip) e = refl
-
   -- the hits of a call are the same
-  call-rowed : (k : Call) → Rowless k → hits (rowed v r) (clipOf k) (plots (rowed v r) k) ≡ hits v (clipOf k) (plots v k)
+  call-rowed : (k : Call) → Sided k → hits (rowed v r) (clipOf k) (plots (rowed v r) k) ≡ hits v (clipOf k) (plots v k)
   call-rowed k e =
-      hits-rowed (clipOf k) (plots (rowed v r) k) ∙ ap (hits v (clipOf k)) (ap (dip (brush (rowed v r))) (dots-rowed k e) ∙ dip-rowed (dots v k))
+      hits-sided v (rowed v r) (clipOf k) (plots (rowed v r) k)
+      ∙ ap (hits v (clipOf k)) (ap (dip (brush (rowed v r))) (dots-sided v (rowed v r) k e) ∙ dip-rowed (dots v k))
 
-  landings-rowed : (ks : List Call) → AllRowless ks → landings (rowed v r) ks ≡ landings v ks
+  landings-rowed : (ks : List Call) → AllSided ks → landings (rowed v r) ks ≡ landings v ks
   unfolding landings
   landings-rowed [] no-call = refl
   landings-rowed (k ∷ ks) (one-call e es) = ap₂ (λ (hs ls : List Hit). unless (faultOf k) hs ++ ls) (call-rowed k e) (landings-rowed ks es)
@@ -149,13 +132,13 @@ landings-kept v (k ∷ ks) (then c cs) = all-append (go (faultOf k)) (landings-k
 
 module _ (v : Canvas) (r : ℕ) (b t : List ℕ) (f : verdict v (length b) ≡ Sound) (g : verdict (rowed v r) (length t) ≡ Sound) where
   -- a call lands as many plots, and is refused alike
-  pub same-landed : (k : Call) → Rowless k
+  pub same-landed : (k : Call) → Sided k
       → (orElse (verdict (rowed v r) (length t)) (faultOf k) ≡ orElse (verdict v (length b)) (faultOf k))
       × (length (hits (rowed v r) (clipOf k) (plots (rowed v r) k)) ≡ length (hits v (clipOf k) (plots v k)))
   same-landed k e = (rw (f, g) refl, ap length (call-rowed v r k e))
 
   -- calls leave the same word at each pixel, where there was the same, with XOR on or off
-  pub after-alike : (ks : List Call) → Bytes b → Bytes t → Fine ks → AllRowless ks → Alike v b (rowed v r) t
+  pub after-alike : (ks : List Call) → Bytes b → Bytes t → Fine ks → AllSided ks → Alike v b (rowed v r) t
       → Alike v (after v ks b) (rowed v r) (after (rowed v r) ks t)
   after-alike ks o p c e a =
       let s : Screen v b = record { long = sized v b f .long; bytes = o } in

@@ -20,7 +20,7 @@ use Rattle.pixels.specs.Bytes.{form, On}
 use Rattle.canvas.specs.Faults.{orElse, verdict}
 use Rattle.canvas.specs.Plot.{Point, Dye, plain, over, inverse, Dot, tint, plot, dip, fate, hits}
 use Rattle.pixels.specs.Hits.{Hit, paint}
-use Rattle.canvas.specs.Call.{Call, shape, draw, clipOf, faultOf, sourceColor, dots, brush, plots, ruled, drawing, call}
+use Rattle.canvas.specs.Call.{Call, shape, draw, clipOf, faultOf, sourceColor, dots, carried, brush, plots, ruled, drawing, call}
 use Rattle.canvas.specs.Boxes.{picture}
 use Rattle.canvas.specs.Calls.{after, unless, landing, landings, stays}
 use Rattle.pixels.proofs.bytes.Cells.{Bytes}
@@ -86,7 +86,7 @@ Dyes v d = Stamps (form v) (stays (form v) d) (brush v d)
 
 dyes : (v : Canvas) → v .xor ≡ true → (d : Dye) → Toned d → Dyes v d
 dyes v x (plain c) h = rw x (plot-stamps (form v) c h)
-dyes v x (over c) h = rw x (blend-stamps (form v) c h)
+dyes v x (over c) h = rw x (blend-stamps (form v) (carried v) c h)
 dyes v x inverse h = invert-stamps (form v)
 
 pub call-dyes : (v : Canvas) → v .xor ≡ true → (k : Call) → Colored k → Dots (Dyes v) (dots v k)

@@ -13,7 +13,7 @@ use Rattle.canvas.specs.declared.Refusal.the-variants.{Size, Row}
 use Rattle.canvas.specs.declared.faults.Verdict.{Verdict}
 use Rattle.canvas.specs.declared.faults.Verdict.the-variants.{Sound, Faulty}
 use Rattle.pixels.specs.Bytes.{byte, get, Tail}
-use Rattle.canvas.specs.Faults.{fault, formatFault, sizeFault, rowFault, lengthFault, orElse, verdict}
+use Rattle.canvas.specs.Faults.{fault, formatFault, ruleFault, sizeFault, rowFault, lengthFault, orElse, first, verdict}
 use Rattle.canvas.specs.Plot.{Plot}
 use Rattle.canvas.specs.Call.{Call, clipOf, faultOf, plots, drawing, call}
 use Rattle.canvas.specs.Calls.{after}
@@ -44,6 +44,9 @@ row-idle w r h d e = rw (e, le-ltb w w (le-refl w)) (go (ltb 32767 w) (ltb 32767
     go false true = refl
     go false false = refl
 
-pub even-verdict : (v : Canvas) (n : ℕ) → v .row ≡ v .width → verdict v n ≡ orElse (formatFault v) (orElse (sizeFault v) (lengthFault v n))
-unfolding verdict sizeFault rowFault
-even-verdict v n e = ap (orElse (formatFault v)) (row-idle (v .width) (v .row) (v .height) (lengthFault v n) e)
+pub even-verdict :
+    (v : Canvas) (n : ℕ) → v .row ≡ v .width → verdict v n ≡ first (formatFault v ∷ ruleFault v ∷ sizeFault v ∷ lengthFault v n ∷ [])
+unfolding verdict first sizeFault rowFault
+even-verdict v n e =
+    ap (λ (d : Verdict). orElse (formatFault v) (orElse (ruleFault v) d))
+    (row-idle (v .width) (v .row) (v .height) (orElse (lengthFault v n) Sound) e)

@@ -5,3 +5,4 @@ pub mod Paints
 pub mod Answers
 pub mod Landed
 pub mod Dabs
+pub mod Sides

@@ -7,7 +7,7 @@ use Rattle.words.specs.declared.Color.{Color}
 use Rattle.words.specs.Word.{toColor}
 use Rattle.words.specs.Ink.{plotWord}
 use Rattle.words.specs.Invert.{invertWord}
-use Rattle.blending.specs.Blend.{blendWord}
+use Rattle.blending.specs.Blend.{Rule, ruleOf, blendWord}
 use Rattle.pixels.specs.declared.Canvas.{Canvas}
 use Rattle.canvas.specs.declared.Clip.{Clip}
 use Rattle.canvas.specs.declared.Drawn.{Drawn}
@@ -60,10 +60,14 @@ dots v (shape own points dye clip) = tint dye (points v)
 dots v (draw dx dy w h source image sx sy clip) =
     picture (λ i j. over (sourceColor source image dx dy sx sy i j)) (shown dx sx w (source .width) (v .width)) (shown dy sy h (source .height) (v .height))
 
+-- "Demand 2 reads by the rule carried": of the canvas that is drawn on.
+abbrev pub carried : Canvas → Rule
+carried v = ruleOf (v .rule)
+
 -- What a dye makes of the word stored on this canvas: "`draw` blends instead."; "`copy_area` and `invert_rect` ignore XOR."
 abbrev pub brush : Canvas → Dye → ℕ → ℕ
 brush v (plain c) = plotWord (form v) (v .xor) c
-brush v (over c) = blendWord (form v) (v .xor) c
+brush v (over c) = blendWord (form v) (carried v) (v .xor) c
 brush v inverse = invertWord (form v)
 
 abbrev pub plots : Canvas → Call → List Plot

@@ -48,6 +48,6 @@ judged (Faulty r) c = reading (number r) nothing
 unfoldable pub look : Canvas → List ℕ → ℤ → ℤ → Seen
 look v b x y = cond (onCanvas v x y) (seen (toColor (form v) (loadAt v b (natAbs x) (natAbs y)))) nothing
 
--- "`get_pixel` is refused by 1 to 3"
+-- "`get_pixel` is refused by 1 to 3", and so by 02's RULE and ROW
 unfoldable pub pixelAt : Canvas → List ℕ → ℤ → ℤ → Reading
 pixelAt v b x y = judged (verdict v (length b)) (look v b x y)

@@ -32,6 +32,7 @@ fn invert_in(canvas: Canvas, b: &mut [u8], p: u64, q: u64, w: u32, h: u32, clip:
         height: canvas.height,
         row: canvas.row,
         xor: false,
+        rule: canvas.rule,
     };
     let ink = words::invert_ink(canvas.format);
     fill_in(plain, b, p, q, w, h, ink, clip, Tally { landed: 0 })

@@ -1,8 +1,8 @@
 // Which canvases are refused.
 ghost use mathlib.Core.Path.{_≡_};
-ghost use mathlib.Core.Bool.{_||_};
+ghost use mathlib.Core.Bool.{not, _||_};
 ghost use Prim.Native.Nat.{_≤_};
-ghost use lib.Dec.{ltb};
+ghost use lib.Dec.{ltb, eqb};
 ghost use Rattle.canvas.specs.Faults.{orElse, verdict};
 use crate::Refusal;
 use pixels::Canvas;
@@ -20,6 +20,13 @@ pub fn or_else(f: Verdict, d: Verdict) -> Verdict
         Verdict::Sound => d,
         Verdict::Faulty(r) => Verdict::Faulty(r),
     }
+}
+
+// Whether a number is neither 1 nor 2; 0 wraps around.
+fn is_unruly(rule: u32) -> bool
+    ensures { λ r. ⌜ r ≡ not (eqb rule 1 || eqb rule 2) ⌝ }
+{
+    1 < std::num::wrapping_sub_u32(rule, 1)
 }
 
 // Whether one of two numbers is above 32,767: then what has the bits of both is.
@@ -44,6 +51,9 @@ pub fn judge(canvas: Canvas, len: usize) -> Verdict
 {
     if 4 < canvas.format {
         return Verdict::Faulty(Refusal::Format);
+    }
+    if is_unruly(canvas.rule) {
+        return Verdict::Faulty(Refusal::Rule);
     }
     if is_large(canvas.width, canvas.height) {
         return Verdict::Faulty(Refusal::Size);

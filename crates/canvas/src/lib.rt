@@ -37,6 +37,7 @@ pub enum Refusal {
     Angle,
     Shape,
     Row,
+    Rule,
 }
 
 // What became of the plots so far.
@@ -58,7 +59,7 @@ pub enum Pixel {
 }
 
 impl Refusal {
-    // 01's number.
+    // 01's number, and 02's.
     pub fn number(self) -> u32
         ensures { λ r. ⌜ r ≡ number self ⌝ }
     {
@@ -70,6 +71,7 @@ impl Refusal {
             Refusal::Angle => 5,
             Refusal::Shape => 6,
             Refusal::Row => 18,
+            Refusal::Rule => 23,
         }
     }
 }

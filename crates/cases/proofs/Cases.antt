@@ -122,7 +122,7 @@ module _ (op : ℕ) (h r : Args) (bytes image : List ℕ) (n m : ℕ) (e : fitti
       rw (p, q, k) (sym (rw (← e, ← f, le-leb n (length bytes) (l .0), le-leb m (length image) (l .1))))
 
 -- The head, the name and the row one after the other are the case.
-module _ (line bytes image : List ℕ) (h : Taken) (o : Name) (k : ℕ) (e : readArgs line h ≡ argsOf (kindsIn 16 0xeeebd40000000000) (leftAt line 0))
+module _ (line bytes image : List ℕ) (h : Taken) (o : Name) (k : ℕ) (e : readArgs line h ≡ argsOf (kindsIn 16 0xeeebd41000000000) (leftAt line 0))
     (f : readName line o ≡ nameOf (leftAt line (h .next))) (g : kindsIn 16 k ≡ rowOf (o .letters)) where
   case-is : known (kindsIn 16 k) (called (o .letters) (readArgs line h .value) (argsOf (kindsIn 16 k) (leftAt line (o .next))) bytes image) (noCase, bytes, image)
       ≡ caseOf line bytes image

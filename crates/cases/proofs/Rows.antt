@@ -17,7 +17,7 @@ use Rattle.cases.specs.declared.number.Number.{Number}
 use Rattle.cases.specs.declared.row.Args.{Args as Taken}
 use Rattle.cases.specs.declared.seed.Seeded.{Seeded}
 
-pub head-kinds : kindsIn 16 0xeeebd40000000000 ≡ head
+pub head-kinds : kindsIn 16 0xeeebd41000000000 ≡ head
 unfolding kindsIn
 head-kinds = refl
 

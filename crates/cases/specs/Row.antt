@@ -9,8 +9,8 @@ use Rattle.cases.specs.Line.{Left, Got, got}
 use Rattle.cases.specs.Number.{namedOf, numeric}
 use Rattle.cases.specs.Seed.{Sown, given, seedOf, fileOf}
 
--- The kinds: a an i32, b a switch, c a channel, d a seed, e a u32, f a file; below them a row length, whose width stands so
--- many words before it.
+-- The kinds: a an i32, b a switch, c a channel, d a seed, e a u32, f a file; 1 a rule; below a else a row length, whose width
+-- stands so many words before it.
 abbrev pub a : ℕ
 a = 10
 
@@ -29,9 +29,9 @@ e = 14
 abbrev pub f : ℕ
 f = 15
 
--- "F W H X SEED", and the row length
+-- "F W H X SEED", the row length and the rule
 abbrev pub head : List ℕ
-head = e ∷ e ∷ e ∷ b ∷ d ∷ 4 ∷ []
+head = e ∷ e ∷ e ∷ b ∷ d ∷ 4 ∷ 1 ∷ []
 
 -- "x y"; "w h"; "COL is A R G B"; "CLIP is x y w h"
 abbrev pub point : List ℕ
@@ -60,7 +60,7 @@ rowOf op =
     (cond (eqb op ops.frrect) (point ++ extent ++ extent ++ color ++ clip)
     (cond (eqb op ops.copy) (point ++ point ++ extent ++ clip)
     (cond (eqb op ops.invert) (point ++ extent ++ clip)
-    (cond (eqb op ops.draw) (point ++ extent ++ (e ∷ e ∷ e ∷ d ∷ 3 ∷ []) ++ point ++ clip)
+    (cond (eqb op ops.draw) (point ++ extent ++ (e ∷ e ∷ e ∷ d ∷ 3 ∷ 1 ∷ []) ++ point ++ clip)
     (cond (eqb op ops.lbmp) (e ∷ f ∷ [])
     (cond (eqb op ops.res) (f ∷ []) [])))))))))))))
 
@@ -82,9 +82,16 @@ rowName = 114 ∷ 111 ∷ 119 ∷ 61 ∷ []
 unfoldable pub rowLength : ℕ → Left → Got ℕ
 rowLength width l = namedOf rowName width l
 
+-- "rule=N: blending rule; absent: 1"
+abbrev pub ruleName : List ℕ
+ruleName = 114 ∷ 117 ∷ 108 ∷ 101 ∷ 61 ∷ []
+
+unfoldable pub ruleNumber : Left → Got ℕ
+ruleNumber l = namedOf ruleName 1 l
+
 -- The number that is the word i, behind those before it.
 unfoldable pub wordOf : ℕ → ℕ → List ℕ → Left → Got ℕ
-wordOf i k n l = cond (ltb k a) (rowLength (getD n (i - k) 0) l) (numeric k l)
+wordOf i k n l = cond (eqb k 1) (ruleNumber l) (cond (ltb k a) (rowLength (getD n (i - k) 0) l) (numeric k l))
 
 -- One argument more, the word i of them.
 unfoldable pub argOf : ℕ → ℕ → Got Args → Got Args

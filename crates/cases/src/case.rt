@@ -117,7 +117,7 @@ fn lay_both(
 pub fn read(line: &[u8], bytes: &mut [u8], image: &mut [u8]) -> Case
     ensures { λ r. ⌜ (r, now (bytes .exit), now (image .exit)) ≡ caseOf (now (line .entry)) (now (bytes .entry)) (now (image .entry)) ⌝ }
 {
-    let h = read_args(line, 0, 0xeeeb_d400_0000_0000);
+    let h = read_args(line, 0, 0xeeeb_d410_0000_0000);
     let name = read_name(line, h.next);
     let k = kinds(name.letters);
     let c = read_args(line, name.next, k);

@@ -2,7 +2,7 @@
 ghost use mathlib.Core.Path.{_≡_};
 ghost use Prim.Native.Nat.{_<_, _-_};
 ghost use Rattle.cases.specs.Place.{leftAt, read, readArgs, kindsIn, Within};
-ghost use Rattle.cases.specs.Row.{rowOf, wordOf, rowLength, argOf, argsOf};
+ghost use Rattle.cases.specs.Row.{rowOf, wordOf, rowLength, ruleNumber, argOf, argsOf};
 use crate::number::Number;
 use crate::number::read_kind;
 use crate::number::read_named;
@@ -48,7 +48,8 @@ pub(crate) struct Args {
 }
 
 // What the arguments of an op are, a hex digit each, from the highest: a an i32, b a switch, c a channel, d a seed,
-// e a u32, f a file; below them a row length, whose width stands so many words before it. What is no op has none.
+// e a u32, f a file; 1 a rule; below a else a row length, whose width stands so many words before it. What is no op
+// has none.
 pub(crate) fn kinds(name: u64) -> u64
     ensures { λ r. ⌜ kindsIn 16 r ≡ rowOf name ⌝ }
 {
@@ -61,7 +62,7 @@ pub(crate) fn kinds(name: u64) -> u64
         RRECT | FRRECT => 0xaaee_eecc_ccaa_ee00,
         COPY => 0xaaaa_eeaa_ee00_0000,
         INVERT => 0xaaee_aaee_0000_0000,
-        DRAW => 0xaaee_eeed_3aaa_aee0,
+        DRAW => 0xaaee_eeed_31aa_aaee,
         LBMP => 0xef00_0000_0000_0000,
         RES => 0xf000_0000_0000_0000,
         _ => 0,
@@ -87,11 +88,21 @@ fn read_row(line: &[u8], at: usize, width: u32) -> Number
     read_named(line, at, b"row=", width)
 }
 
+// The blending rule at a place.
+fn read_rule(line: &[u8], at: usize) -> Number
+    ensures { λ r. ⌜ read (now (line .entry)) r ≡ ruleNumber (leftAt (now (line .entry)) at) ⌝ }
+{
+    read_named(line, at, b"rule=", 1)
+}
+
 // The number at a place that is the word i, behind those before it.
 fn read_word(line: &[u8], at: usize, i: usize, kind: u64, numbers: [u32; 16]) -> Number
     requires { ⌜ i < 16 ⌝ }
     ensures { λ r. ⌜ read (now (line .entry)) r ≡ wordOf i kind numbers (leftAt (now (line .entry)) at) ⌝ }
 {
+    if kind == 1 {
+        return read_rule(line, at);
+    }
     if kind < 10 {
         let w = back(i, kind);
         return read_row(line, at, numbers[w]);

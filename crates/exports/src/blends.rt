@@ -4,34 +4,34 @@ ghost use mathlib.Core.Bool.{true, false};
 ghost use Rattle.words.specs.Format.{formatOf, rgb332, rgb565, argb, abgr};
 ghost use Rattle.words.specs.Word.{toColor};
 ghost use Rattle.words.specs.Ink.{plotInk};
-ghost use Rattle.blending.specs.Blend.{scaled, blendWord, setting};
+ghost use Rattle.blending.specs.Blend.{scaled, ruleOf, blendWord, setting};
 
 #[no_mangle]
-pub extern "C" fn blending_332(source: u32, raw: u32) -> u32
-    ensures { λ r. ⌜ r ≡ blendWord rgb332 false (toColor argb source) raw ⌝ }
+pub extern "C" fn blending_332(rule: u32, source: u32, raw: u32) -> u32
+    ensures { λ r. ⌜ r ≡ blendWord rgb332 (ruleOf rule) false (toColor argb source) raw ⌝ }
 {
-    blending::blend332(source, raw)
+    blending::blend332(rule, source, raw)
 }
 
 #[no_mangle]
-pub extern "C" fn blending_565(source: u32, raw: u32) -> u32
-    ensures { λ r. ⌜ r ≡ blendWord rgb565 false (toColor argb source) raw ⌝ }
+pub extern "C" fn blending_565(rule: u32, source: u32, raw: u32) -> u32
+    ensures { λ r. ⌜ r ≡ blendWord rgb565 (ruleOf rule) false (toColor argb source) raw ⌝ }
 {
-    blending::blend565(source, raw)
+    blending::blend565(rule, source, raw)
 }
 
 #[no_mangle]
-pub extern "C" fn blending_rgb(source: u32, raw: u32, set: u32) -> u32
-    ensures { λ r. ⌜ r ≡ setting set (blendWord argb false (toColor argb source)) raw ⌝ }
+pub extern "C" fn blending_rgb(rule: u32, source: u32, raw: u32, set: u32) -> u32
+    ensures { λ r. ⌜ r ≡ setting set (blendWord argb (ruleOf rule) false (toColor argb source)) raw ⌝ }
 {
-    blending::blend_rgb(source, raw, set)
+    blending::blend_rgb(rule, source, raw, set)
 }
 
 #[no_mangle]
-pub extern "C" fn blending_bgr(source: u32, raw: u32, set: u32) -> u32
-    ensures { λ r. ⌜ r ≡ setting set (blendWord abgr false (toColor argb source)) raw ⌝ }
+pub extern "C" fn blending_bgr(rule: u32, source: u32, raw: u32, set: u32) -> u32
+    ensures { λ r. ⌜ r ≡ setting set (blendWord abgr (ruleOf rule) false (toColor argb source)) raw ⌝ }
 {
-    blending::blend_bgr(source, raw, set)
+    blending::blend_bgr(rule, source, raw, set)
 }
 
 // The two masks of drawing an ARGB word with XOR on.

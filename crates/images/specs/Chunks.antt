@@ -9,6 +9,7 @@ use Rattle.blending.specs.Blend.{blendWord}
 use Rattle.pixels.specs.declared.Canvas.{Canvas}
 use Rattle.pixels.specs.declared.rows.Span.{Span}
 use Rattle.pixels.specs.Bytes.{form, loadAt}
+use Rattle.canvas.specs.Call.{carried}
 use Rattle.canvas.specs.Walk.{Sourced}
 
 -- What reading sees of each word.
@@ -34,7 +35,7 @@ pub record Copying (v : Canvas) (xs ys : Span) (n p q u t : ℕ) : Type 0 where
 
 -- What drawing makes of the word at a pixel, with the source's pixel as far from sx and sy as the pixel is from x and y.
 abbrev pub overlaid : Canvas → Canvas → List ℕ → ℕ → ℕ → ℕ → ℕ → ℕ → ℕ → ℕ → ℕ
-overlaid v s image x y sx sy i j w = blendWord (form v) (v .xor) (toColor (form s) (loadAt s image (sx + (i - x)) (sy + (j - y)))) w
+overlaid v s image x y sx sy i j w = blendWord (form v) (carried v) (v .xor) (toColor (form s) (loadAt s image (sx + (i - x)) (sy + (j - y)))) w
 
 -- Colours read from an image whose format keeps no alpha are solid.
 pub record Solid (format : ℕ) (cs : List ℕ) : Type 0 where

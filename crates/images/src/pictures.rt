@@ -6,7 +6,7 @@ ghost use Rattle.blending.specs.Loops.{blended};
 ghost use Rattle.pixels.specs.Bytes.{form, Sized};
 ghost use Rattle.canvas.specs.Faults.{verdict, asSource};
 ghost use Rattle.pixels.specs.Hits.{paint};
-ghost use Rattle.canvas.specs.Call.{leaves, call};
+ghost use Rattle.canvas.specs.Call.{carried, leaves, call};
 ghost use Rattle.canvas.specs.Call.{draw as drawCall};
 ghost use Rattle.pixels.specs.Rows.{run, marks, field};
 ghost use Rattle.images.specs.Chunks.{overlaid, Solid};
@@ -28,7 +28,7 @@ use pixels::rows::Span;
 // What drawing colours leaves of words. Those of an image that keeps no alpha are stored.
 fn compose(canvas: Canvas, source: Canvas, cs: &[u32], ws: &mut [u32])
     requires { ⌜ (canvas .format ≤ 4) × (Solid (source .format) (now cs)) ⌝ }
-    ensures { λ _. ⌜ now (ws .exit) ≡ blended (form canvas) (canvas .xor) (now (cs .entry)) (now (ws .entry)) ⌝ }
+    ensures { λ _. ⌜ now (ws .exit) ≡ blended (form canvas) (carried canvas) (canvas .xor) (now (cs .entry)) (now (ws .entry)) ⌝ }
 {
     if !canvas.xor {
         if source.format < 3 {
@@ -36,7 +36,7 @@ fn compose(canvas: Canvas, source: Canvas, cs: &[u32], ws: &mut [u32])
             return;
         }
     }
-    blending::loops::blend_words(canvas.format, canvas.xor, cs, ws);
+    blending::loops::blend_words(canvas.format, canvas.rule, canvas.xor, cs, ws);
 }
 
 // As many pixels as the chunks hold, of the image's row sy from sx on, over row y from x on.

@@ -72,7 +72,9 @@ module _ (n : List ℕ) (v : Canvas) (k : Clip) (image b : List ℕ) where
   unfolding pictureBy
   copy-is = refl
 
-  pub draw-is : pictureBy op.draw n v k image b ≡ call v (draw (intAt n 0) (intAt n 1) (wordAt n 2) (wordAt n 3) (canvasAt n 4 8 false) image (intAt n 9) (intAt n 10) k) b
+  pub draw-is :
+      pictureBy op.draw n v k image b
+      ≡ call v (draw (intAt n 0) (intAt n 1) (wordAt n 2) (wordAt n 3) (canvasAt n 4 8 false) image (intAt n 10) (intAt n 11) k) b
   unfolding pictureBy
   draw-is = refl
 

@@ -14,7 +14,7 @@ use Rattle.cases.specs.Case.{Outcome, noCase, known, caseOf}
 use Rattle.cases.specs.Line.{wordsOf, firstWord, otherWords, after, next, orElse, firstOf}
 use Rattle.cases.specs.Number.{natural, numberOf, behind, namedOf, numeric, nameOf}
 use Rattle.cases.specs.Seed.{seedOf}
-use Rattle.cases.specs.Row.{rowOf, numbered, seeded, rowLength, wordOf, argOf, argsFrom, argsOf}
+use Rattle.cases.specs.Row.{rowOf, numbered, seeded, rowLength, ruleNumber, wordOf, argOf, argsFrom, argsOf}
 use Rattle.cases.specs.Answer.{placed, answered}
 use Rattle.cases.proofs.Texts.{answered-within}
 use Rattle.replies.specs.Answers.{Response, response, respondTo}
@@ -88,7 +88,8 @@ module _ (out : List ℕ) where
 
 -- An empty line is bad, and so is one that is too long.
 pub empty-is-bad : (b i : List ℕ) → caseOf [] b i ≡ (noCase, b, i)
-unfolding caseOf known argsOf argsFrom argOf numbered seeded wordOf rowLength namedOf behind numeric numberOf natural seedOf nameOf next after orElse firstOf wordsOf firstWord otherWords rowOf
+unfolding caseOf known argsOf argsFrom argOf numbered seeded wordOf rowLength ruleNumber namedOf behind numeric numberOf
+    natural seedOf nameOf next after orElse firstOf wordsOf firstWord otherWords rowOf
 empty-is-bad b i = refl
 
 pub long-is-bad : (line b i ws out : List ℕ) → 65536 < length (withoutReturn line) → replied line b i ws out ≡ reply (refused out) b i ws

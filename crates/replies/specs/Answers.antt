@@ -86,6 +86,6 @@ respondBy o n v b file ws =
     (cond (eqb o op.res) (response (iconOf file) b ws)
     (let d = drawn o n v file b in response (counted o d) (d .bytes) ws)))
 
--- The canvas of a case: "F W H X", with the row right after SEED, and "X: 1 for XOR on"
+-- The canvas of a case: "F W H X", with row and rule right after SEED, and "X: 1 for XOR on"
 unfoldable pub respondTo : Case → List ℕ → List ℕ → List ℕ → Response
 respondTo c b file ws = respondBy (c .name) (c .args) (canvasAt (c .head) 0 5 (eqb (wordAt (c .head) 3) 1)) b file ws

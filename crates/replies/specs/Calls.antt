@@ -12,12 +12,12 @@ use Rattle.ovals.specs.Call.{drawArc, fillArc, drawRoundRect, fillRoundRect}
 use Rattle.cases.specs.Ops as op
 use Rattle.replies.specs.Numbers.{wordAt, intAt, canvasAt}
 
--- "copy | dx dy sx sy w h CLIP", "draw | dx dy w h SF SW SH SSEED sx sy CLIP", with the row right after SSEED; what is no
+-- "copy | dx dy sx sy w h CLIP", "draw | dx dy w h SF SW SH SSEED sx sy CLIP", with row and rule right after SSEED; what is no
 -- drawing op draws nothing.
 unfoldable pub pictureBy : ℕ → List ℕ → Canvas → Clip → List ℕ → List ℕ → Outcome
 pictureBy o n v k image b =
     cond (eqb o op.copy) (copyArea v (intAt n 0) (intAt n 1) (intAt n 2) (intAt n 3) (wordAt n 4) (wordAt n 5) k b)
-    (cond (eqb o op.draw) (call v (draw (intAt n 0) (intAt n 1) (wordAt n 2) (wordAt n 3) (canvasAt n 4 8 false) image (intAt n 9) (intAt n 10) k) b)
+    (cond (eqb o op.draw) (call v (draw (intAt n 0) (intAt n 1) (wordAt n 2) (wordAt n 3) (canvasAt n 4 8 false) image (intAt n 10) (intAt n 11) k) b)
     (outcome 0 0 b))
 
 -- "arc, pie | x y w h start sweep COL CLIP", "rrect, frrect | x y w h aw ah COL CLIP"

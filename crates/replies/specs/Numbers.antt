@@ -32,9 +32,17 @@ colorAt n i = record {
 unfoldable pub clipAt : List ℕ → ℕ → Clip
 clipAt n i = record { x = intAt n i; y = intAt n (i + 1); width = wordAt n (i + 2); height = wordAt n (i + 3) }
 
--- "F: format number. W, H: sides.", from the word i on, and the row length, the word j; of an image SF SW SH, and its row.
+-- "F: format number. W, H: sides.", from the word i on, and the row length and the rule, from the word j on; of an image SF SW SH, and
+-- its row and rule.
 unfoldable pub canvasAt : List ℕ → ℕ → ℕ → Bool → Canvas
-canvasAt n i j x = record { format = wordAt n i; width = wordAt n (i + 1); height = wordAt n (i + 2); row = wordAt n j; xor = x }
+canvasAt n i j x = record {
+  format = wordAt n i;
+  width = wordAt n (i + 1);
+  height = wordAt n (i + 2);
+  row = wordAt n j;
+  xor = x;
+  rule = wordAt n (j + 1);
+}
 
 -- Behind an op's own numbers stand COL, where it has one, and CLIP: the word at which CLIP begins.
 unfoldable pub clipStart : ℕ → ℕ
@@ -42,4 +50,4 @@ clipStart o =
     cond (eqb o op.invert) 4
     (cond (eqb o op.put) 6
     (cond (eqb o op.copy) 6
-    (cond (eqb o op.line) 8 (cond (eqb o op.rect) 8 (cond (eqb o op.fill) 8 (cond (eqb o op.draw) 11 10))))))
+    (cond (eqb o op.line) 8 (cond (eqb o op.rect) 8 (cond (eqb o op.fill) 8 (cond (eqb o op.draw) 12 10))))))

@@ -46,7 +46,7 @@ fn picture_call(op: u64, n: [u32; 16], v: Canvas, k: Clip, image: &[u8], bytes: 
         ),
         DRAW => {
             let s = sized(n, 4, 8, false);
-            images::draw(v, bytes, x, y, w, h, s, image, int(n, 9), int(n, 10), k)
+            images::draw(v, bytes, x, y, w, h, s, image, int(n, 10), int(n, 11), k)
         }
         _ => Drawn::Done(Tally { landed: 0 }),
     }

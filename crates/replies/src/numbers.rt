@@ -65,10 +65,10 @@ pub(crate) fn clip(n: [u32; 16], i: usize) -> Clip
     }
 }
 
-// A canvas, whose format, width and height begin at the word i, and whose row length is the word j.
+// A canvas, whose format, width and height begin at the word i, and whose row length and rule begin at the word j.
 pub(crate) fn sized(n: [u32; 16], i: usize, j: usize, xor: bool) -> Canvas
     requires { ⌜ i ≤ 12 ⌝ }
-    requires { ⌜ j < 16 ⌝ }
+    requires { ⌜ j < 15 ⌝ }
     ensures { λ r. ⌜ r ≡ canvasAt n i j xor ⌝ }
 {
     Canvas {
@@ -77,6 +77,7 @@ pub(crate) fn sized(n: [u32; 16], i: usize, j: usize, xor: bool) -> Canvas
         height: word(n, i + 2),
         row: word(n, j),
         xor,
+        rule: word(n, j + 1),
     }
 }
 
@@ -89,7 +90,7 @@ pub(crate) fn clip_at(name: u64) -> usize
         INVERT => 4,
         PUT | COPY => 6,
         LINE | RECT | FILL => 8,
-        DRAW => 11,
+        DRAW => 12,
         _ => 10,
     }
 }

@@ -1,5 +1,5 @@
 -- The public functions as makers of calls: each step of a run is the contract of the function itself. A new call adds a constructor of
--- `Made` and a case of `made-is`, of `colored` and of `rowless`.
+-- `Made` and a case of `made-is`, of `colored` and of `sided`.
 use mathlib.Core.Path.{_≡_, refl, ap, _∙_}
 use mathlib.Core.List.{List}
 use Prim.Native.Nat.{ℕ}
@@ -21,7 +21,7 @@ use Rattle.canvas.specs.Call.{draw as drawCall}
 use Rattle.ovals.specs.Call.{drawArc, fillArc, drawRoundRect, fillRoundRect}
 use Rattle.canvas.proofs.Determined.{leaves-same}
 use Rattle.canvas.proofs.Reverse.{Colored}
-use Rattle.canvas.proofs.Pictures.{Rowless}
+use Rattle.canvas.proofs.plot.Sides.{Sided}
 use Rattle.canvas.proofs.put_pixel.Kinds as put-pixel-kinds
 use Rattle.canvas.proofs.put_pixel.Reads as put-pixel
 use Rattle.canvas.proofs.draw_line.Kinds as draw-line-kinds
@@ -110,17 +110,17 @@ colored (by-draw q) = tt
 told : {v : Canvas} {k : Call} {b b′ : List ℕ} {d : Drawn} → Made v k b d b′ → d ≡ answer v (length b) k
 told {v} {k} {b} {b′} {d} m = leaves-same d (answer v (length b) k) b′ (call v k b .bytes) (made-is m ∙ call-answers v k b) .0
 
-rowless : {v : Canvas} {k : Call} {b b′ : List ℕ} {d : Drawn} → Made v k b d b′ → Rowless k
-rowless (by-put-pixel q) = λ v r. refl
-rowless (by-draw-line q) = of-line _ _ _ _
-rowless (by-draw-rect q) = of-outline _ _ _ _
-rowless (by-fill-rect q) = of-fill _ _ _ _
-rowless (by-draw-arc q) = of-arc _ _ _ _ _ _
-rowless (by-fill-arc q) = of-pie _ _ _ _ _ _
-rowless (by-draw-round-rect q) = of-round _ _ _ _ _ _
-rowless (by-fill-round-rect q) = of-round-fill _ _ _ _ _ _
-rowless (by-invert-rect q) = of-fill _ _ _ _
-rowless (by-draw q) = tt
+sided : {v : Canvas} {k : Call} {b b′ : List ℕ} {d : Drawn} → Made v k b d b′ → Sided k
+sided (by-put-pixel q) = λ v r. refl
+sided (by-draw-line q) = of-line _ _ _ _
+sided (by-draw-rect q) = of-outline _ _ _ _
+sided (by-fill-rect q) = of-fill _ _ _ _
+sided (by-draw-arc q) = of-arc _ _ _ _ _ _
+sided (by-fill-arc q) = of-pie _ _ _ _ _ _
+sided (by-draw-round-rect q) = of-round _ _ _ _ _ _
+sided (by-fill-round-rect q) = of-round-fill _ _ _ _ _ _
+sided (by-invert-rect q) = of-fill _ _ _ _
+sided (by-draw q) = tt
 
 pub data Copied : Canvas → Copy → List ℕ → List ℕ → Type 0 where
   by-copy-area : {κs : _} {v : Canvas} {m : RefT (List ℕ)} {dx dy sx sy : ℤ} {w h : ℕ} {k : Clip} {d : Drawn} {s : _}
@@ -139,7 +139,7 @@ called = record {
   leaving = λ m. ap (λ (o : Outcome). o .bytes) (made-is m);
   telling = told;
   colored = colored;
-  rowless = rowless;
+  sided = sided;
   Copied = Copied;
   copying = copied;
 }

@@ -13,7 +13,7 @@ use Rattle.words.specs.Ink.{plotWord}
 use Rattle.pixels.specs.declared.Canvas.{Canvas}
 use Rattle.pixels.specs.Bytes.{get, put, load, store, cells, pixel, pitch, extent, loadAt, storeAt}
 use Rattle.canvas.specs.Clip.{within, inClip}
-use Rattle.canvas.specs.Faults.{formatFault, sizeFault, rowFault, lengthFault, orElse, verdict}
+use Rattle.canvas.specs.Faults.{formatFault, ruleFault, sizeFault, rowFault, lengthFault, orElse, first, verdict}
 use Rattle.canvas.specs.Plot.{tint, dip, onCanvas, fate, hits}
 use Rattle.pixels.specs.Hits.{touch, paint}
 use Rattle.canvas.specs.Boxes.{select, fill}
@@ -32,11 +32,13 @@ abbrev pub on : ℕ → Color → Call
 on x c = putPixel (pos x) (pos 0) c (clip 0 0 2 1)
 
 whitened : call (small 2 1) (on 0 white) (0 ∷ 0 ∷ []) .bytes ≡ 255 ∷ 0 ∷ []
-unfolding drawing verdict formatFault sizeFault rowFault lengthFault pitch extent formatOf bytesPerPixel orElse dots tint dip hits fate onCanvas inClip within paint touch loadAt storeAt pixel cells load store get put plotWord fromColor
+unfolding drawing verdict first formatFault ruleFault sizeFault rowFault lengthFault pitch extent formatOf bytesPerPixel orElse
+    dots tint dip hits fate onCanvas inClip within paint touch loadAt storeAt pixel cells load store get put plotWord fromColor
 whitened = refl
 
 blackened : call (small 2 1) (on 0 black) (0 ∷ 0 ∷ []) .bytes ≡ 0 ∷ 0 ∷ []
-unfolding drawing verdict formatFault sizeFault rowFault lengthFault pitch extent formatOf bytesPerPixel orElse dots tint dip hits fate onCanvas inClip within paint touch loadAt storeAt pixel cells load store get put plotWord fromColor
+unfolding drawing verdict first formatFault ruleFault sizeFault rowFault lengthFault pitch extent formatOf bytesPerPixel orElse
+    dots tint dip hits fate onCanvas inClip within paint touch loadAt storeAt pixel cells load store get put plotWord fromColor
 blackened = refl
 
 differ : _≡_ {A = List ℕ} (255 ∷ 0 ∷ []) (0 ∷ 0 ∷ []) → ⊥
@@ -53,5 +55,7 @@ not-nothing h = differ (sym whitened ∙ h (small 2 1) (on 0 white) (0 ∷ 0 ∷
 -- draws the first of a list and skips the rest: of a box of two pixels both are painted, and of two calls both are made
 pub not-the-first-alone : (call (small 2 1) (fillRect (pos 0) (pos 0) 2 1 white (clip 0 0 2 1)) (0 ∷ 0 ∷ []) .bytes ≡ 255 ∷ 255 ∷ [])
     × (after (small 2 1) (on 0 white ∷ on 1 white ∷ []) (0 ∷ 0 ∷ []) ≡ 255 ∷ 255 ∷ [])
-unfolding after drawing verdict formatFault sizeFault rowFault lengthFault pitch extent formatOf bytesPerPixel orElse dots tint dip fill flatMap select hits fate onCanvas inClip within paint touch loadAt storeAt pixel cells load store get put plotWord fromColor
+unfolding after drawing verdict first formatFault ruleFault sizeFault rowFault lengthFault pitch extent formatOf bytesPerPixel
+    orElse dots tint dip fill flatMap select hits fate onCanvas inClip within paint touch loadAt storeAt pixel cells load store
+    get put plotWord fromColor
 not-the-first-alone = (refl, refl)

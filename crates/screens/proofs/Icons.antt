@@ -17,7 +17,7 @@ use Rattle.pixels.proofs.bytes.Tails.{even-extent}
 use Rattle.canvas.specs.declared.Clip.{Clip}
 use Rattle.canvas.specs.declared.Drawn.{Drawn}
 use Rattle.canvas.specs.declared.faults.Verdict.the-variants.{Sound}
-use Rattle.canvas.specs.Faults.{formatFault, sizeFault, lengthFault, orElse, verdict, asSource}
+use Rattle.canvas.specs.Faults.{formatFault, ruleFault, sizeFault, lengthFault, orElse, first, verdict, asSource}
 use Rattle.canvas.specs.Call.{Outcome, statusOf}
 use Rattle.canvas.specs.Call.{draw as drawCall}
 use Rattle.canvas.proofs.Accepted.{accepted}
@@ -30,9 +30,9 @@ use Rattle.res.proofs.decode_res.Reads as decode-res
 use Rattle.res.proofs.icon_pixels.Reads as icon-pixels
 use Rattle.screens.proofs.Called.{Made, made-is}
 
--- An icon as a canvas: its format is RGB332, its rows have no tails, and a source's switch says nothing.
+-- An icon as a canvas: its format is RGB332, its rows have no tails, its rule is 1, and a source's switch says nothing.
 abbrev pub asCanvas : Bool → Icon → Canvas
-asCanvas x i = record { format = 0; width = i .width; height = i .height; row = i .width; xor = x }
+asCanvas x i = record { format = 0; width = i .width; height = i .height; row = i .width; xor = x; rule = 1 }
 
 -- its sides are bytes of the file
 small : (f : List ℕ) (i : Icon) → Bytes f → firstIcon f ≡ Here i → (i .width ≤ 255) × (i .height ≤ 255)
@@ -43,7 +43,7 @@ small f i o e =
     (omega (arith, w, o .byte (s .at + 1)), omega (arith, h, o .byte (s .at + 2)))
 
 pub no-fault : (f : List ℕ) (i : Icon) (x : Bool) → Bytes f → firstIcon f ≡ Here i → verdict (asCanvas x i) (length (iconPixels f)) ≡ Sound
-unfolding formatFault sizeFault lengthFault orElse formatOf bytesPerPixel
+unfolding first formatFault ruleFault sizeFault lengthFault orElse formatOf bytesPerPixel
 no-fault f i x o e =
     let s = small f i o e in
     let n : length (iconPixels f) ≡ i .height * i .width * 1 = part-length f i e ∙ mul-comm (i .width) (i .height) ∙ omega arith in
@@ -53,7 +53,8 @@ no-fault f i x o e =
 
 -- Of the public functions: where `decode_res` found an icon in a file, and `icon_pixels` handed a part of it back, a `draw`
 -- from that part on a canvas that is not refused is accepted. `Bytes` is asked as in Runs.
-pub icon-drawn : (κs κs′ : _) (file part : RefT (List ℕ)) (i : Icon) (s s′ : _) → Bytes (now file) → decode-res.Post κs (file, tt) (Here i) s → icon-pixels.Post κs′ (file, tt) part s′
+pub icon-drawn : (κs κs′ : _) (file part : RefT (List ℕ)) (i : Icon) (s s′ : _)
+    → Bytes (now file) → decode-res.Post κs (file, tt) (Here i) s → icon-pixels.Post κs′ (file, tt) part s′
     → {x : Bool} {v : Canvas} {dx dy sx sy : ℤ} {w h : ℕ} {k : Clip} {d : Drawn} {b b′ : List ℕ} → verdict v (length b) ≡ Sound
     → Made v (drawCall dx dy w h (asCanvas x i) (now part) sx sy k) b d b′ → statusOf d ≡ 0
 icon-drawn κs κs′ file part i s s′ o p q {x} {v} {dx} {dy} {sx} {sy} {w} {h} {k} {d} {b} e m =

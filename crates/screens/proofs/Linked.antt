@@ -13,7 +13,7 @@ use Rattle.canvas.specs.Call.{Call, putPixel, drawLine, drawRect, fillRect, inv
 use Rattle.canvas.specs.Call.{draw as drawCall}
 use Rattle.ovals.specs.Call.{drawArc, fillArc, drawRoundRect, fillRoundRect}
 use Rattle.canvas.proofs.Reverse.{Colored}
-use Rattle.canvas.proofs.Pictures.{Rowless}
+use Rattle.canvas.proofs.plot.Sides.{Sided}
 use Rattle.tuyrashka.specs.Exported.{canvasOf, sourceOf, clipOf, colorOf, drawnOf, gives}
 use Rattle.tuyrashka.proofs.tuyrashka_put_pixel.Kinds as put-pixel-kinds
 use Rattle.tuyrashka.proofs.tuyrashka_put_pixel.Reads as put-pixel
@@ -110,17 +110,17 @@ unfolding gives
 told {v} {k} {b} m =
     ap (λ (t : ℕ × (List ℕ × List ℕ)). (t .0, t .1 .0)) (made-is m) ∙ ap (λ (o : Outcome). (o .status, drawnOf (o .count))) (call-answers v k b)
 
-rowless : {v : Canvas} {k : Call} {b b′ : List ℕ} {a : ℕ × List ℕ} → Made v k b a b′ → Rowless k
-rowless (by-put-pixel q) = λ v r. refl
-rowless (by-draw-line q) = of-line _ _ _ _
-rowless (by-draw-rect q) = of-outline _ _ _ _
-rowless (by-fill-rect q) = of-fill _ _ _ _
-rowless (by-draw-arc q) = of-arc _ _ _ _ _ _
-rowless (by-fill-arc q) = of-pie _ _ _ _ _ _
-rowless (by-draw-round-rect q) = of-round _ _ _ _ _ _
-rowless (by-fill-round-rect q) = of-round-fill _ _ _ _ _ _
-rowless (by-invert-rect q) = of-fill _ _ _ _
-rowless (by-draw q) = tt
+sided : {v : Canvas} {k : Call} {b b′ : List ℕ} {a : ℕ × List ℕ} → Made v k b a b′ → Sided k
+sided (by-put-pixel q) = λ v r. refl
+sided (by-draw-line q) = of-line _ _ _ _
+sided (by-draw-rect q) = of-outline _ _ _ _
+sided (by-fill-rect q) = of-fill _ _ _ _
+sided (by-draw-arc q) = of-arc _ _ _ _ _ _
+sided (by-fill-arc q) = of-pie _ _ _ _ _ _
+sided (by-draw-round-rect q) = of-round _ _ _ _ _ _
+sided (by-fill-round-rect q) = of-round-fill _ _ _ _ _ _
+sided (by-invert-rect q) = of-fill _ _ _ _
+sided (by-draw q) = tt
 
 pub data Copied : Canvas → Copy → List ℕ → List ℕ → Type 0 where
   by-copy-area : {κs : _} {g m z n : RefT (List ℕ)} {dx dy sx sy : ℤ} {w h : ℕ} {r : ℕ} {s : _}
@@ -140,7 +140,7 @@ linked = record {
   leaving = left;
   telling = told;
   colored = colored;
-  rowless = rowless;
+  sided = sided;
   Copied = Copied;
   copying = copied;
 }

@@ -24,7 +24,7 @@ use Rattle.canvas.specs.declared.faults.Verdict.{Verdict}
 use Rattle.canvas.specs.declared.faults.Verdict.the-variants.{Sound, Faulty}
 use Rattle.pixels.specs.Bytes.{form, loadAt, Tail, On}
 use Rattle.pixels.specs.Hits.{Hit, paint}
-use Rattle.canvas.specs.Faults.{orElse, verdict}
+use Rattle.canvas.specs.Faults.{ruleFault, orElse, verdict}
 use Rattle.canvas.specs.Plot.{hits}
 use Rattle.canvas.specs.Call.{Call, clipOf, faultOf, plots, Outcome, statusOf, countOf, leaves, ruled, drawing, call}
 use Rattle.images.specs.Areas.{copyArea}
@@ -35,7 +35,9 @@ use Rattle.canvas.proofs.Reverse.{Colored, Fine, end, then}
 use Rattle.canvas.proofs.Reverse as reverse
 use Rattle.canvas.proofs.Stains as stain
 use Rattle.canvas.proofs.Tails.{tails-after}
-use Rattle.canvas.proofs.Pictures.{rowed, Alike, Rowless, AllRowless, no-call, one-call, same-landed, after-alike}
+use Rattle.canvas.proofs.Pictures.{rowed, Alike, same-landed, after-alike}
+use Rattle.canvas.proofs.Rules.{ruledBy, with-xor, verdict-ruled, hits-unasked, after-unasked}
+use Rattle.canvas.proofs.plot.Sides.{Sided, AllSided, no-call, one-call}
 
 -- ---- a function that was run
 
@@ -91,7 +93,8 @@ abbrev pub copy : Canvas → Copy → List ℕ → Outcome
 copy v k b = copyArea v (k .dx) (k .dy) (k .sx) (k .sy) (k .w) (k .h) (k .clip) b
 
 -- `Made v k b a b′`: on the canvas v with b in the bytes lent, the function of the call k was given the arguments of k, answered a and
--- left b′. It leaves what the call leaves and tells the call's answer, the colours it was given are of bytes, and no shape looks at the row.
+-- left b′. It leaves what the call leaves and tells the call's answer, the colours it was given are of bytes, and shapes look
+-- at the sides alone.
 -- `Copied` is the same of area copy, which is no call that a second one takes away.
 pub record Maker : Type 1 where
   pub Answer : Type 0
@@ -100,7 +103,7 @@ pub record Maker : Type 1 where
   pub leaving : {v : Canvas} {k : Call} {b b′ : List ℕ} {a : Answer} → Made v k b a b′ → b′ ≡ call v k b .bytes
   pub telling : {v : Canvas} {k : Call} {b b′ : List ℕ} {a : Answer} → Made v k b a b′ → a ≡ tell (answer v (length b) k)
   pub colored : {v : Canvas} {k : Call} {b b′ : List ℕ} {a : Answer} → Made v k b a b′ → Colored k
-  pub rowless : {v : Canvas} {k : Call} {b b′ : List ℕ} {a : Answer} → Made v k b a b′ → Rowless k
+  pub sided : {v : Canvas} {k : Call} {b b′ : List ℕ} {a : Answer} → Made v k b a b′ → Sided k
   pub Copied : Canvas → Copy → List ℕ → List ℕ → Type 0
   pub copying : {v : Canvas} {k : Copy} {b b′ : List ℕ} → Copied v k b b′ → b′ ≡ copy v k b .bytes
 
@@ -250,11 +253,11 @@ tails-back M {v} {ks} {b} p o t = ap (λ (c : List ℕ). getD c o 0) (run-is p) 
 -- two runs of the same calls on canvases that differ in the row alone, from bytes that show the same, with XOR on or off: the same answers,
 -- and bytes that show the same. So a canvas with tails is drawn on as its visible part is.
 module _ (M : Maker) (v : Canvas) (r : ℕ) where
-  looks : {ks : List Call} {b b′ : List ℕ} {ds : List (M .Answer)} → Run M v ks b ds b′ → AllRowless ks
+  looks : {ks : List Call} {b b′ : List ℕ} {ds : List (M .Answer)} → Run M v ks b ds b′ → AllSided ks
   looks stop = no-call
-  looks (go-on m p) = one-call (M .rowless m) (looks p)
+  looks (go-on m p) = one-call (M .sided m) (looks p)
 
-  told-alike : (b t : List ℕ) → verdict v (length b) ≡ Sound → verdict (rowed v r) (length t) ≡ Sound → (ks : List Call) → AllRowless ks
+  told-alike : (b t : List ℕ) → verdict v (length b) ≡ Sound → verdict (rowed v r) (length t) ≡ Sound → (ks : List Call) → AllSided ks
       → map (λ k. M .tell (answer v (length b) k)) ks ≡ map (λ k. M .tell (answer (rowed v r) (length t) k)) ks
   told-alike b t f g [] no-call = refl
   told-alike b t f g (k ∷ ks) (one-call e es) =
@@ -267,6 +270,22 @@ module _ (M : Maker) (v : Canvas) (r : ℕ) where
     run-answers p ∙ told-alike b t f g ks (looks p) ∙ sym (run-answers q),
     rw (run-is p, run-is q) (after-alike v r b t f g ks o i (fine p) (looks p) a),
   )
+
+-- two runs of the same calls with XOR on, on canvases that differ in the rule alone, which RULE refuses both or neither: the same answers,
+-- and the same bytes
+module _ (M : Maker) (v : Canvas) (r : ℕ) (same : ruleFault (ruledBy v r) ≡ ruleFault v) (x : v .xor ≡ true) where
+  told-by-rules :
+      (n : ℕ) (ks : List Call) → AllSided ks → map (λ k. M .tell (answer (ruledBy v r) n k)) ks ≡ map (λ k. M .tell (answer v n k)) ks
+  told-by-rules n [] no-call = refl
+  told-by-rules n (k ∷ ks) (one-call s ss) =
+      ap₂ (λ (a : M .Answer) (l : List (M .Answer)). a ∷ l)
+      (ap (M .tell) (ap₂ (λ (d : Verdict) (hs : List Hit). said (orElse d (faultOf k)) (length hs)) (verdict-ruled v r same n) (hits-unasked v r same k s (with-xor v k x))))
+      (told-by-rules n ks ss)
+
+  pub same-by-rules : {ks : List Call} {b b′ c′ : List ℕ} {ds es : List (M .Answer)} → Run M v ks b ds b′ → Run M (ruledBy v r) ks b es c′ → (ds ≡ es) × (b′ ≡ c′)
+  same-by-rules {ks} {b} p q =
+      let s = looks M v r p in
+      (run-answers p ∙ sym (told-by-rules (length b) ks s) ∙ sym (run-answers q), run-is p ∙ sym (after-unasked v r same ks b x s) ∙ sym (run-is q))
 
 -- on a canvas that is refused, for any run, and so for two: every answer is that refusal, and the bytes are as before
 pub all-refused : (M : Maker) {v : Canvas} {ks : List Call} {b b′ : List ℕ} {ds : List (M .Answer)} {r : Refusal} → verdict v (length b) ≡ Faulty r → Run M v ks b ds b′

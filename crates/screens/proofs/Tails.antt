@@ -15,7 +15,7 @@ use Rattle.screens.proofs.Runs.{Copy, copy, Maker}
 
 -- the canvas with the switch on or off
 abbrev pub switched : Canvas → Bool → Canvas
-switched v x = record { format = v .format; width = v .width; height = v .height; row = v .row; xor = x }
+switched v x = record { format = v .format; width = v .width; height = v .height; row = v .row; xor = x; rule = v .rule }
 
 -- `History M v b b′`: b became b′ by calls and copies on v, each with XOR on or off
 pub data History (M : Maker) (v : Canvas) : List ℕ → List ℕ → Type 0 where

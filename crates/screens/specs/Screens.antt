@@ -21,9 +21,9 @@ use Rattle.lbmp.specs.Image.{greyColor, colorAt, wordUnder}
 abbrev pub clip : ℕ → ℕ → ℕ → ℕ → Clip
 clip x y w h = record { x = pos x; y = pos y; width = w; height = h }
 
--- A canvas of a byte a pixel, without tails.
+-- A canvas of a byte a pixel, without tails, by rule 1.
 abbrev pub small : ℕ → ℕ → Canvas
-small w h = record { format = 0; width = w; height = h; row = w; xor = false }
+small w h = record { format = 0; width = w; height = h; row = w; xor = false; rule = 1 }
 
 pub data Row : Type 0 where
   stores : Format → Color → ℕ → Row

@@ -20,11 +20,18 @@ use Rattle.res.specs.Search as res
 
 -- struct tuyrashka_canvas; XOR is on where its word is not 0.
 unfoldable pub canvasOf : List ℕ → Canvas
-canvasOf r = record { format = getD r 0 0; width = getD r 1 0; height = getD r 2 0; xor = not (eqb (getD r 3 0) 0); row = getD r 4 0 }
+canvasOf r = record {
+  format = getD r 0 0;
+  width = getD r 1 0;
+  height = getD r 2 0;
+  xor = not (eqb (getD r 3 0) 0);
+  row = getD r 4 0;
+  rule = getD r 5 0;
+}
 
 -- An image that is drawn from is a canvas too; its XOR switch says nothing.
 unfoldable pub sourceOf : List ℕ → Canvas
-sourceOf r = let c = canvasOf r in record { format = c .format; width = c .width; height = c .height; row = c .row; xor = false }
+sourceOf r = let c = canvasOf r in record { format = c .format; width = c .width; height = c .height; row = c .row; xor = false; rule = c .rule }
 
 -- The bits of an i32.
 abbrev pub bitsOf : ℤ → ℕ

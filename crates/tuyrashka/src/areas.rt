@@ -10,7 +10,7 @@ use crate::records::source_of;
 
 #[no_mangle]
 pub extern "C" fn tuyrashka_invert_rect(
-    canvas: &[u32; 5],
+    canvas: &[u32; 6],
     bytes: &mut [u8],
     x: i32,
     y: i32,
@@ -32,7 +32,7 @@ pub extern "C" fn tuyrashka_invert_rect(
 
 #[no_mangle]
 pub extern "C" fn tuyrashka_copy_area(
-    canvas: &[u32; 5],
+    canvas: &[u32; 6],
     bytes: &mut [u8],
     dx: i32,
     dy: i32,
@@ -56,13 +56,13 @@ pub extern "C" fn tuyrashka_copy_area(
 
 #[no_mangle]
 pub extern "C" fn tuyrashka_draw(
-    canvas: &[u32; 5],
+    canvas: &[u32; 6],
     bytes: &mut [u8],
     dx: i32,
     dy: i32,
     w: u32,
     h: u32,
-    source: &[u32; 5],
+    source: &[u32; 6],
     image: &[u8],
     sx: i32,
     sy: i32,

@@ -29,7 +29,7 @@ pub use rounds::tuyrashka_fill_round_rect;
 
 #[no_mangle]
 pub extern "C" fn tuyrashka_put_pixel(
-    canvas: &[u32; 5],
+    canvas: &[u32; 6],
     bytes: &mut [u8],
     x: i32,
     y: i32,
@@ -51,7 +51,7 @@ pub extern "C" fn tuyrashka_put_pixel(
 
 #[no_mangle]
 pub extern "C" fn tuyrashka_draw_line(
-    canvas: &[u32; 5],
+    canvas: &[u32; 6],
     bytes: &mut [u8],
     x1: i32,
     y1: i32,
@@ -75,7 +75,7 @@ pub extern "C" fn tuyrashka_draw_line(
 
 #[no_mangle]
 pub extern "C" fn tuyrashka_draw_rect(
-    canvas: &[u32; 5],
+    canvas: &[u32; 6],
     bytes: &mut [u8],
     x: i32,
     y: i32,
@@ -99,7 +99,7 @@ pub extern "C" fn tuyrashka_draw_rect(
 
 #[no_mangle]
 pub extern "C" fn tuyrashka_fill_rect(
-    canvas: &[u32; 5],
+    canvas: &[u32; 6],
     bytes: &mut [u8],
     x: i32,
     y: i32,
@@ -123,7 +123,7 @@ pub extern "C" fn tuyrashka_fill_rect(
 
 #[no_mangle]
 pub extern "C" fn tuyrashka_get_pixel(
-    canvas: &[u32; 5],
+    canvas: &[u32; 6],
     bytes: &[u8],
     x: i32,
     y: i32,

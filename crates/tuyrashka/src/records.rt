@@ -8,7 +8,7 @@ use canvas::span::signed;
 use pixels::Canvas;
 use words::Color;
 
-pub(crate) fn canvas_of(c: &[u32; 5]) -> Canvas
+pub(crate) fn canvas_of(c: &[u32; 6]) -> Canvas
     ensures { λ r. ⌜ r ≡ canvasOf (now (c .entry)) ⌝ }
 {
     Canvas {
@@ -17,10 +17,11 @@ pub(crate) fn canvas_of(c: &[u32; 5]) -> Canvas
         height: c[2],
         row: c[4],
         xor: c[3] != 0,
+        rule: c[5],
     }
 }
 
-pub(crate) fn source_of(c: &[u32; 5]) -> Canvas
+pub(crate) fn source_of(c: &[u32; 6]) -> Canvas
     ensures { λ r. ⌜ r ≡ sourceOf (now (c .entry)) ⌝ }
 {
     let s = canvas_of(c);
@@ -30,6 +31,7 @@ pub(crate) fn source_of(c: &[u32; 5]) -> Canvas
         height: s.height,
         row: s.row,
         xor: false,
+        rule: s.rule,
     }
 }
 

@@ -10,7 +10,7 @@ use crate::records::give_drawn;
 
 #[no_mangle]
 pub extern "C" fn tuyrashka_draw_arc(
-    canvas: &[u32; 5],
+    canvas: &[u32; 6],
     bytes: &mut [u8],
     x: i32,
     y: i32,
@@ -36,7 +36,7 @@ pub extern "C" fn tuyrashka_draw_arc(
 
 #[no_mangle]
 pub extern "C" fn tuyrashka_fill_arc(
-    canvas: &[u32; 5],
+    canvas: &[u32; 6],
     bytes: &mut [u8],
     x: i32,
     y: i32,
@@ -62,7 +62,7 @@ pub extern "C" fn tuyrashka_fill_arc(
 
 #[no_mangle]
 pub extern "C" fn tuyrashka_draw_round_rect(
-    canvas: &[u32; 5],
+    canvas: &[u32; 6],
     bytes: &mut [u8],
     x: i32,
     y: i32,
@@ -88,7 +88,7 @@ pub extern "C" fn tuyrashka_draw_round_rect(
 
 #[no_mangle]
 pub extern "C" fn tuyrashka_fill_round_rect(
-    canvas: &[u32; 5],
+    canvas: &[u32; 6],
     bytes: &mut [u8],
     x: i32,
     y: i32,

@@ -63,7 +63,7 @@ fn source(format: u32, (w, h): (i64, i64)) -> String {
 }
 
 /// An ARGB or ABGR image of the same channels under each of these alphas.
-fn veiled(alphas: impl Iterator<Item = i64>) -> String {
+pub fn veiled(alphas: impl Iterator<Item = i64>) -> String {
     alphas.map(|alpha| format!("3264c8{alpha:02x}")).collect()
 }
 

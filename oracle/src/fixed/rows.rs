@@ -34,7 +34,7 @@ fn source(head: &str) -> String {
 }
 
 /// Arguments on a canvas of 5 by 4: up to the right edge, past it, and off the left one; nothing for what draws nothing.
-fn args(op: &str) -> Vec<String> {
+pub fn args(op: &str) -> Vec<String> {
     let boxes = ["0 0 5 4", "3 1 9 9", "-2 -1 6 4"];
     let (at, behind) = match op {
         "put" => (["4 3", "5 1", "0 2"], format!(" {COLOR} {EVERYWHERE}")),

@@ -4,7 +4,7 @@ use native.Mathlib.Nat.{mod-eq-of-lt}
 use Rattle.words.specs.Format.{rgb332, argb}
 use Rattle.words.specs.Word.{fromColor, toColor}
 use Rattle.words.proofs.Reading.{read-channels}
-use Rattle.blending.specs.Blend.{blendWord}
+use Rattle.blending.specs.Blend.{ruleOf, blendWord}
 use Rattle.blending.proofs.Opaque.{over-read}
 use borrow.Author.Needs.{needs}
 use Rattle.blending.proofs.blend332.Statement.{statement}
@@ -55,11 +55,11 @@ add-result-5 c = search needs
 returns : tie.Need-returns
 unfolding blendWord fromColor toColor
 returns c =
-    let w = c .before .before .before .before .args .raw in
-    let h = read-channels rgb332 w in
+    let a = c .before .before .before .before .args in
+    let h = read-channels rgb332 (a .raw) in
     ap (fromColor rgb332)
     (c .before .before .before .lay .ensures .is
-    ∙ over-read (toColor argb (c .before .before .before .before .args .source)) _ (toColor rgb332 w) (mod-eq-of-lt (h .r)) (mod-eq-of-lt (h .g)) (mod-eq-of-lt (h .b)))
+    ∙ over-read (ruleOf (a .rule)) (toColor argb (a .source)) _ (toColor rgb332 (a .raw)) (mod-eq-of-lt (h .r)) (mod-eq-of-lt (h .g)) (mod-eq-of-lt (h .b)))
 
 pub blend332-spec : {M : Type 1} → statement M
 blend332-spec =

@@ -5,7 +5,7 @@ use native.Mathlib.Omega.{arith}
 use Rattle.words.specs.Format.{rgb565, argb}
 use Rattle.words.specs.Word.{fromColor, toColor}
 use Rattle.words.proofs.Reading.{read-channels}
-use Rattle.blending.specs.Blend.{blendWord}
+use Rattle.blending.specs.Blend.{ruleOf, blendWord}
 use Rattle.blending.proofs.Opaque.{over-read}
 use borrow.Author.Needs.{needs}
 use Rattle.blending.proofs.blend565.Statement.{statement}
@@ -41,14 +41,17 @@ byte e h = omega arith
 returns : tie.Need-returns
 unfolding blendWord fromColor toColor
 returns c =
-    let w = c .before .before .before .before .before .before .before .args .raw in
-    let h = read-channels rgb565 w in
+    let blue = c .before .before .before .before in
+    let green = blue .before in
+    let red = green .before in
+    let a = red .before .args in
+    let h = read-channels rgb565 (a .raw) in
     ap (fromColor rgb565)
     (c .before .before .before .lay .ensures .is
-    ∙ over-read (toColor argb (c .before .before .before .before .before .before .before .args .source)) _ (toColor rgb565 w)
-    (byte (c .before .before .before .before .before .before .level5-of .ensures) (h .r))
-    (byte (c .before .before .before .before .before .level6-of .ensures) (h .g))
-    (byte (c .before .before .before .before .level5-of2 .ensures) (h .b)))
+    ∙ over-read (ruleOf (a .rule)) (toColor argb (a .source)) _ (toColor rgb565 (a .raw))
+    (byte (red .level5-of .ensures) (h .r))
+    (byte (green .level6-of .ensures) (h .g))
+    (byte (blue .level5-of2 .ensures) (h .b)))
 
 pub blend565-spec : {M : Type 1} → statement M
 blend565-spec =

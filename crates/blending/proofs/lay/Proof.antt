@@ -5,6 +5,7 @@ use borrow.Author.Needs.{needs}
 use Rattle.words.specs.Format.{argb}
 use Rattle.words.specs.Word.{color, toColor}
 use Rattle.words.proofs.Reading.{read-channels}
+use Rattle.blending.specs.Blend.{ruleOf}
 use Rattle.blending.proofs.Opaque.{mixed-over}
 use Rattle.blending.proofs.lay.Statement.{statement}
 use Rattle.blending.proofs.lay.Tie as tie
@@ -31,10 +32,11 @@ returns c =
     let b = c .mix3 .ensures in
     record {
       is =
-          mixed-over (toColor argb (s .source)) (color 255 (s .r % 256) (s .g % 256) (s .b % 256)) (read-channels argb (s .source))
+          mixed-over (ruleOf (s .rule)) (toColor argb (s .source)) (color 255 (s .r % 256) (s .g % 256) (s .b % 256)) (read-channels argb (s .source))
           (record { a = omega arith; r = omega arith; g = omega arith; b = omega arith })
           (k .0)
-          (k .1)
+          (k .1 .0)
+          (k .1 .1)
           (r .0)
           (g .0)
           (b .0);

@@ -6,15 +6,15 @@ use Rattle.blending.specs.Blend.{factor, others}
 use Rattle.blending.proofs.shares_of.Statement.{statement}
 use Rattle.blending.proofs.shares_of.Tie as tie
 
-cast-own : tie.Need-cast-own
-cast-own c = search needs
+cast-alpha : tie.Need-cast-alpha
+cast-alpha c = search needs
 
 int-to-float-own : tie.Need-int-to-float-own
 int-to-float-own c = search needs
 
 returns : tie.Need-returns
 unfolding factor others ofBits ofInt
-returns c = (refl, refl)
+returns c = (refl, (refl, refl))
 
 pub shares-of-spec : {M : Type 1} → statement M
-shares-of-spec = tie.close (tie.spec cast-own int-to-float-own returns)
+shares-of-spec = tie.close (tie.spec cast-alpha int-to-float-own returns)

@@ -10,12 +10,12 @@ use lib.ListN.{length}
 use Rattle.words.proofs.Either.{neither}
 use Rattle.pixels.specs.declared.Canvas.{Canvas}
 use Rattle.canvas.specs.declared.Refusal.{Refusal}
-use Rattle.canvas.specs.declared.Refusal.the-variants.{Format, Size, Length, Row}
+use Rattle.canvas.specs.declared.Refusal.the-variants.{Format, Size, Length, Row, Rule}
 use Rattle.canvas.specs.declared.faults.Verdict.{Verdict}
 use Rattle.canvas.specs.declared.faults.Verdict.the-variants.{Sound, Faulty}
 use Rattle.pixels.specs.Bytes.{extent, folded, Sized}
 use Rattle.pixels.proofs.bytes.Places.{folded-is}
-use Rattle.canvas.specs.Faults.{fault, formatFault, sizeFault, rowFault, lengthFault, orElse, verdict}
+use Rattle.canvas.specs.Faults.{fault, formatFault, ruleFault, sizeFault, rowFault, lengthFault, orElse, first, verdict}
 
 pub or-faulty : (f d : Verdict) (r : Refusal) → f ≡ Faulty r → f ≡ orElse f d
 unfolding orElse
@@ -26,6 +26,9 @@ unfolding orElse
 or-sound f d e = rw e refl
 
 -- ---- the first fault by its tests
+
+abbrev unruly : Canvas → Bool
+unruly v = not (eqb (v .rule) 1 || eqb (v .rule) 2)
 
 abbrev large-sides : Canvas → Bool
 large-sides v = ltb 32767 (v .width) || ltb 32767 (v .height)
@@ -50,26 +53,31 @@ pub rows-even : (v : Canvas) → large-sides v ≡ false → v .row ≡ v .width
 rows-even v e h = rw (le-ltb (v .row) (v .width) (omega arith), le-ltb 32767 (v .row) (omega (arith, narrow v e))) refl
 
 module _ (v : Canvas) (n : ℕ) (known : ltb 4 (v .format) ≡ false) where
-  pub size-first : large-sides v ≡ true → Faulty Size ≡ verdict v n
-  unfolding verdict formatFault sizeFault orElse
-  size-first e = rw (known, e) refl
+  pub rule-first : unruly v ≡ true → Faulty Rule ≡ verdict v n
+  unfolding verdict first formatFault ruleFault orElse
+  rule-first e = rw (known, e) refl
 
-  module _ (sides : large-sides v ≡ false) where
-    pub row-first : off-row v ≡ true → Faulty Row ≡ verdict v n
-    unfolding verdict formatFault sizeFault rowFault orElse
-    row-first e = rw (known, sides, e) refl
+  module _ (ruly : unruly v ≡ false) where
+    pub size-first : large-sides v ≡ true → Faulty Size ≡ verdict v n
+    unfolding verdict first formatFault ruleFault sizeFault orElse
+    size-first e = rw (known, ruly, e) refl
 
-    module _ (rows : off-row v ≡ false) where
-      whole : folded v ≡ extent v
-      whole = folded-is v (record { high = sides-known v sides .1; rows = rows-known v rows .0; tails = rows-known v rows .1 })
+    module _ (sides : large-sides v ≡ false) where
+      pub row-first : off-row v ≡ true → Faulty Row ≡ verdict v n
+      unfolding verdict first formatFault ruleFault sizeFault rowFault orElse
+      row-first e = rw (known, ruly, sides, e) refl
 
-      pub length-first : eqb n (folded v) ≡ false → Faulty Length ≡ verdict v n
-      unfolding verdict formatFault sizeFault rowFault lengthFault orElse
-      length-first e = rw (known, sides, rows, ← whole, e) refl
+      module _ (rows : off-row v ≡ false) where
+        whole : folded v ≡ extent v
+        whole = folded-is v (record { high = sides-known v sides .1; rows = rows-known v rows .0; tails = rows-known v rows .1 })
 
-      pub none-first : eqb n (folded v) ≡ true → Sound ≡ verdict v n
-      unfolding verdict formatFault sizeFault rowFault lengthFault orElse
-      none-first e = rw (known, sides, rows, ← whole, e) refl
+        pub length-first : eqb n (folded v) ≡ false → Faulty Length ≡ verdict v n
+        unfolding verdict first formatFault ruleFault sizeFault rowFault lengthFault orElse
+        length-first e = rw (known, ruly, sides, rows, ← whole, e) refl
+
+        pub none-first : eqb n (folded v) ≡ true → Sound ≡ verdict v n
+        unfolding verdict first formatFault ruleFault sizeFault rowFault lengthFault orElse
+        none-first e = rw (known, ruly, sides, rows, ← whole, e) refl
 
 -- a test that passes leaves no fault
 pub passes : (t : Bool) (r : Refusal) → fault t r ≡ Sound → t ≡ false
@@ -87,16 +95,23 @@ both-sound Sound d e = (refl, e)
 both-sound (Faulty r) d e = absurd (let z : _≡_ {A = ℕ} 0 1 = cc in omega arith)
 
 pub sized : (v : Canvas) (b : List ℕ) → verdict v (length b) ≡ Sound → Sized v b
-unfolding verdict formatFault sizeFault rowFault lengthFault
+unfolding verdict first formatFault ruleFault sizeFault rowFault lengthFault
 sized v b e =
-    let p : (formatFault v ≡ Sound) × (orElse (sizeFault v) (orElse (rowFault v) (lengthFault v (length b))) ≡ Sound) = both-sound _ _ e in
-    let q : (sizeFault v ≡ Sound) × (orElse (rowFault v) (lengthFault v (length b)) ≡ Sound) = both-sound _ _ (p .1) in
-    let r : (rowFault v ≡ Sound) × (lengthFault v (length b) ≡ Sound) = both-sound _ _ (q .1) in
+    let rules = both-sound (formatFault v) (orElse (ruleFault v) (after-rule v b)) e in
+    let sides = both-sound (ruleFault v) (after-rule v b) (rules .1) in
+    let rows = both-sound (sizeFault v) (after-size v b) (sides .1) in
+    let lengths = both-sound (rowFault v) (orElse (lengthFault v (length b)) Sound) (rows .1) in
     record {
-      known = ltb-false _ _ (passes (ltb 4 (v .format)) Format (p .0));
-      wide = sides-known v (passes _ Size (q .0)) .0;
-      high = sides-known v (passes _ Size (q .0)) .1;
-      long = eqb-true _ _ (not-false (eqb (length b) (extent v)) (passes (not (eqb (length b) (extent v))) Length (r .1)));
-      rows = rows-known v (passes _ Row (r .0)) .0;
-      tails = rows-known v (passes _ Row (r .0)) .1;
+      known = ltb-false _ _ (passes (ltb 4 (v .format)) Format (rules .0));
+      wide = sides-known v (passes _ Size (rows .0)) .0;
+      high = sides-known v (passes _ Size (rows .0)) .1;
+      long = eqb-true _ _ (not-false (eqb (length b) (extent v)) (passes (not (eqb (length b) (extent v))) Length (both-sound _ _ (lengths .1) .0)));
+      rows = rows-known v (passes _ Row (lengths .0)) .0;
+      tails = rows-known v (passes _ Row (lengths .0)) .1;
     }
+  where
+    after-size : Canvas → List ℕ → Verdict
+    after-size v b = orElse (rowFault v) (orElse (lengthFault v (length b)) Sound)
+
+    after-rule : Canvas → List ℕ → Verdict
+    after-rule v b = orElse (sizeFault v) (after-size v b)

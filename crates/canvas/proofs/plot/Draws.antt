@@ -67,7 +67,7 @@ did-length {v} {c} {ps} {w} d = ap (λ (x : Work). length (x .bytes)) (d .same) 
 -- ---- whether XOR is on says nothing of where plots land and of the words there
 
 abbrev pub xored : Canvas → Bool → Canvas
-xored v t = record { format = v .format; width = v .width; height = v .height; row = v .row; xor = t }
+xored v t = record { format = v .format; width = v .width; height = v .height; row = v .row; xor = t; rule = v .rule }
 
 act-xored : (v : Canvas) (t : Bool) (p : Plot) (f : Fate) (w : Work) → act (xored v t) p f w ≡ act v p f w
 unfolding touch loadAt storeAt pixel pitch

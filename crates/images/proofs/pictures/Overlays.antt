@@ -10,7 +10,7 @@ use Rattle.words.specs.Format.{Format, formatOf, argb}
 use Rattle.words.specs.Word.{fromColor, toColor}
 use Rattle.words.specs.Ink.{keepsAlpha}
 use Rattle.words.proofs.Reading.{read-channels, store-read}
-use Rattle.blending.specs.Blend.{blendWord}
+use Rattle.blending.specs.Blend.{Rule, blendWord}
 use Rattle.blending.specs.Loops.{argbOf, pairwise, blended, stored}
 use Rattle.blending.proofs.Laws.{opaque-stores}
 use Rattle.blending.proofs.Runs.{argb-at, argb-length, blended-at, blended-length}
@@ -21,7 +21,7 @@ use Rattle.pixels.specs.Hits.{Hit, touch, paint}
 use Rattle.pixels.specs.Rows.{run, mark, marks, field, laid}
 use Rattle.pixels.proofs.chunks.Chunks.{Taken}
 use Rattle.canvas.specs.Boxes.{spots, picture}
-use Rattle.canvas.specs.Call.{sourceColor}
+use Rattle.canvas.specs.Call.{sourceColor, carried}
 use Rattle.canvas.specs.Walk.{lowered, Sourced}
 use Rattle.images.specs.Chunks.{overlaid, Solid}
 use Rattle.pixels.proofs.bytes.Pixels.{load-other}
@@ -52,10 +52,10 @@ unfolding keepsAlpha
 argb-keeps = refl
 
 pub chunk-draws : (v s : Canvas) (b b′ image : List ℕ) (y x sy sx n : ℕ) (cs cs′ ws ws′ : List ℕ) → y < v .height → x + n ≤ v .width → length cs ≡ n → length ws ≡ n
-    → Taken s image sy sx cs → cs′ ≡ argbOf (form s) cs → Taken v b y x ws → ws′ ≡ blended (form v) (v .xor) cs′ ws
+    → Taken s image sy sx cs → cs′ ≡ argbOf (form s) cs → Taken v b y x ws → ws′ ≡ blended (form v) (carried v) (v .xor) cs′ ws
     → b′ ≡ paint v (marks (laid ws′ x) (run x (length ws′)) y) b → b′ ≡ paint v (marks (overlaid v s image x y sx sy) (run x n) y) b
 chunk-draws v s b b′ image y x sy sx n cs cs′ ws ws′ hy hx lc lw tc ec tw ew e =
-    e ∙ ap (λ (k : ℕ). paint v (marks (laid ws′ x) (run x k) y) b) (ap length ew ∙ blended-length (form v) (v .xor) cs′ ws ∙ lw)
+    e ∙ ap (λ (k : ℕ). paint v (marks (laid ws′ x) (run x k) y) b) (ap length ew ∙ blended-length (form v) (carried v) (v .xor) cs′ ws ∙ lw)
     ∙ paint-values v (laid ws′ x) (overlaid v s image x y sx sy) y hy x n hx b one
   where
     color : (i : ℕ) → i < n → toColor argb (getD cs′ i 0) ≡ toColor (form s) (loadAt s image (sx + i) sy)
@@ -70,8 +70,8 @@ chunk-draws v s b b′ image y x sy sx n cs cs′ ws ws′ hy hx lc lw tc ec tw 
         let z : sy + (y - y) ≡ sy = omega arith in
         let u : x + (k - x) ≡ k = omega arith in
         ap (λ (l : List ℕ). getD l (k - x) 0) ew
-        ∙ blended-at (form v) (v .xor) cs′ ws (k - x) (omega (arith, ap length ec, argb-length (form s) cs)) (omega arith)
-        ∙ ap₂ (λ (c : Color) (a : ℕ). blendWord (form v) (v .xor) c a)
+        ∙ blended-at (form v) (carried v) (v .xor) cs′ ws (k - x) (omega (arith, ap length ec, argb-length (form s) cs)) (omega arith)
+        ∙ ap₂ (λ (c : Color) (a : ℕ). blendWord (form v) (carried v) (v .xor) c a)
         (color (k - x) i ∙ ap (λ (t : ℕ). toColor (form s) (loadAt s image (sx + (k - x)) t)) (sym z))
         (tw .word (k - x) (omega arith) ∙ ap (λ (t : ℕ). loadAt v b t y) u)
 
@@ -94,12 +94,16 @@ solid-read s cs cs′ e = record { solid = λ l i m. alpha l i (omega (arith, ap
         ∙ ap (λ (c : Color). c .a) (store-read argb (toColor (form s) (getD cs i 0)) (read-channels (form s) (getD cs i 0)) argb-keeps)
         ∙ solid-alpha (s .format) l (getD cs i 0)
 
-pub solid-stores : (f : Format) (cs ws : List ℕ) → ((i : ℕ) → i < length cs → toColor argb (getD cs i 0) .a ≡ 255) → stored f cs ws ≡ blended f false cs ws
+-- under either rule
+pub solid-stores :
+    (f : Format) (k : Rule) (cs ws : List ℕ) → ((i : ℕ) → i < length cs → toColor argb (getD cs i 0) .a ≡ 255) →
+    stored f cs ws ≡ blended f k false cs ws
 unfolding stored blended pairwise
-solid-stores f [] ws h = refl
-solid-stores f (c ∷ cs) [] h = refl
-solid-stores f (c ∷ cs) (w ∷ ws) h =
-    ap₂ (λ (a : ℕ) (l : List ℕ). a ∷ l) (sym (opaque-stores f (toColor argb c) w (h 0 (omega arith)))) (solid-stores f cs ws (λ i l. h (suc i) (omega arith)))
+solid-stores f k [] ws h = refl
+solid-stores f k (c ∷ cs) [] h = refl
+solid-stores f k (c ∷ cs) (w ∷ ws) h =
+    ap₂ (λ (a : ℕ) (l : List ℕ). a ∷ l) (sym (opaque-stores f k (toColor argb c) w (h 0 (omega arith))))
+    (solid-stores f k cs ws (λ i l. h (suc i) (omega arith)))
 
 -- ---- a row, and a box
 
@@ -122,7 +126,7 @@ over-more v s image b₀ b b′ x y sx sy n k m d l e = record {
     one : (i : ℕ) → x + k ≤ i → i < x + k + m → overlaid v s image (x + k) y (sx + k) sy i y ≡ overlaid v s image x y sx sy i y
     one i p q =
         let z : sx + k + (i - (x + k)) ≡ sx + (i - x) = omega arith in
-        let made : ℕ → ℕ → ℕ = λ t. blendWord (form v) (v .xor) (toColor (form s) (loadAt s image t (sy + (y - y)))) in
+        let made : ℕ → ℕ → ℕ = λ t. blendWord (form v) (carried v) (v .xor) (toColor (form s) (loadAt s image t (sy + (y - y)))) in
         ap made z
 
 pub over-all : {v s : Canvas} {image b₀ : List ℕ} {x y sx sy n k : ℕ} {b : List ℕ} → Overlaid v s image b₀ x y sx sy n k b → n ≤ k
@@ -140,7 +144,7 @@ row-over v s image b b′ x y0 sx sy n y l e = e ∙ ap (λ (hs : List Hit). pai
     one : (i : ℕ) → x ≤ i → i < x + n → overlaid v s image x y sx (sy + (y - y0)) i y ≡ overlaid v s image x y0 sx sy i y
     one i p q =
         let z : sy + (y - y0) + (y - y) ≡ sy + (y - y0) = omega arith in
-        let made : ℕ → ℕ → ℕ = λ t. blendWord (form v) (v .xor) (toColor (form s) (loadAt s image (sx + (i - x)) t)) in
+        let made : ℕ → ℕ → ℕ = λ t. blendWord (form v) (carried v) (v .xor) (toColor (form s) (loadAt s image (sx + (i - x)) t)) in
         ap made z
 
 -- ---- what the definition plots
@@ -160,14 +164,14 @@ unfolding picture spots dip
 picture-spots g d xs ys = dip-each g _ ys ∙ each-same _ _ ys (λ j. dip-each g _ xs)
 
 pub draws-over : (v s : Canvas) (image : List ℕ) (p q u t x0 x1 y0 y1 m n : ℕ) → Sourced p u m x0 x1 → Sourced q t n y0 y1
-    → field (λ i j. blendWord (form v) (v .xor) (sourceColor s image (lowered p) (lowered q) (lowered u) (lowered t) i j)) (run x0 (x1 - x0)) (run y0 (y1 - y0))
+    → field (λ i j. blendWord (form v) (carried v) (v .xor) (sourceColor s image (lowered p) (lowered q) (lowered u) (lowered t) i j)) (run x0 (x1 - x0)) (run y0 (y1 - y0))
     ≡ field (overlaid v s image x0 y0 (x0 + u - p) (y0 + t - q)) (run x0 (x1 - x0)) (run y0 (y1 - y0))
 draws-over v s image p q u t x0 x1 y0 y1 m n sx sy =
-    field-alike (λ i j. blendWord (form v) (v .xor) (sourceColor s image (lowered p) (lowered q) (lowered u) (lowered t) i j))
+    field-alike (λ i j. blendWord (form v) (carried v) (v .xor) (sourceColor s image (lowered p) (lowered q) (lowered u) (lowered t) i j))
     (overlaid v s image x0 y0 (x0 + u - p) (y0 + t - q)) x0 (x1 - x0) y0 (y1 - y0) one
   where
     one : (i j : ℕ) → x0 ≤ i → i < x0 + (x1 - x0) → y0 ≤ j → j < y0 + (y1 - y0)
-        → blendWord (form v) (v .xor) (sourceColor s image (lowered p) (lowered q) (lowered u) (lowered t) i j) ≡ overlaid v s image x0 y0 (x0 + u - p) (y0 + t - q) i j
+        → blendWord (form v) (carried v) (v .xor) (sourceColor s image (lowered p) (lowered q) (lowered u) (lowered t) i j) ≡ overlaid v s image x0 y0 (x0 + u - p) (y0 + t - q) i j
     one i j a c d e =
-        let made : ℕ → ℕ → ℕ = λ w. blendWord (form v) (v .xor) (toColor (form s) w) in
+        let made : ℕ → ℕ → ℕ = λ w. blendWord (form v) (carried v) (v .xor) (toColor (form s) w) in
         ap made (ap₂ (loadAt s image) (source-at p u m x0 x1 i sx a c) (source-at q t n y0 y1 j sy d e))

@@ -1,16 +1,15 @@
 -- `flips` makes one word after another.
-use mathlib.Core.Bool.{true}
 use Prim.Native.Nat.{_-_}
 use native.Mathlib.Omega.{arith}
 use borrow.Author.Needs.{needs}
 use Rattle.words.specs.Format.{formatOf}
-use Rattle.blending.specs.Loops.{draw, blended}
+use Rattle.blending.specs.Loops.{flip, flipped}
 use Rattle.blending.proofs.Runs.{Made, make-first, make-more, made-all}
 use Rattle.blending.proofs.flip.flips.Statement.{statement}
 use Rattle.blending.proofs.flip.flips.Tie as tie
 
 abbrev Inv-loop : tie.InvT-loop
-Inv-loop format colors words₀ n i₀ words i = Made (draw (formatOf format) true) colors words₀ n words i
+Inv-loop format colors words₀ n i₀ words i = Made (flip (formatOf format)) colors words₀ n words i
 
 abbrev μ-loop : tie.MeasureT-loop
 μ-loop format colors words₀ n i₀ words i = n - i
@@ -19,7 +18,7 @@ shorter-requires : tie.Need-shorter-requires Inv-loop μ-loop
 shorter-requires c κs = search needs
 
 loop-holds : tie.Need-loop-holds Inv-loop μ-loop
-loop-holds c = let a = c .before .before .before .args in make-first (draw (formatOf (a .format)) true) (a .colors .now) (a .words .now) (c .shorter .result)
+loop-holds c = let a = c .before .before .before .args in make-first (flip (formatOf (a .format))) (a .colors .now) (a .words .now) (c .shorter .result)
 
 mul-flipped : tie.Need-mul-flipped Inv-loop μ-loop
 mul-flipped c = omega arith
@@ -53,19 +52,19 @@ loop-again c =
     let a = c .before .before .before .before .before .before .before .before .args in
     let n = c .before .before .before .before .before .shorter in
     let l = c .before .before .before .before .loop in
-    make-more (draw (formatOf (a .format)) true) (a .colors .now) (a .words .now) (n .result) (l .words) (l .i) _ (omega arith) (omega arith) (omega arith) (l .inv)
+    make-more (flip (formatOf (a .format))) (a .colors .now) (a .words .now) (n .result) (l .words) (l .i) _ (omega arith) (omega arith) (omega arith) (l .inv)
     (c .flipped .ensures)
 
 same-length : tie.Need-same-length Inv-loop μ-loop
 same-length c = omega arith
 
 returns : tie.Need-returns Inv-loop μ-loop
-unfolding blended
+unfolding flipped
 returns c =
     let a = c .before .before .before .before .before .args in
     let n = c .before .before .shorter in
     let l = c .before .loop in
-    made-all (draw (formatOf (a .format)) true) (a .colors .now) (a .words .now) (n .result) (l .words) (l .i) (n .ensures) (omega arith) (l .inv)
+    made-all (flip (formatOf (a .format))) (a .colors .now) (a .words .now) (n .result) (l .words) (l .i) (n .ensures) (omega arith) (l .inv)
 
 pub flips-spec : {M : Type 1} → statement M
 flips-spec =

@@ -1,16 +1,15 @@
 -- `flip_words` takes its format's loop.
 use mathlib.Core.Path.{_≡_, _∙_}
-use mathlib.Core.Bool.{true}
 use mathlib.Core.List.{List}
 use Prim.Native.Nat.{ℕ}
 use native.Mathlib.Omega.{arith}
 use Rattle.words.specs.Format.{formatOf}
-use Rattle.blending.specs.Loops.{blended}
+use Rattle.blending.specs.Loops.{flipped}
 use borrow.Author.Needs.{needs}
 use Rattle.blending.proofs.loops.flip_words.Statement.{statement}
 use Rattle.blending.proofs.loops.flip_words.Tie as tie
 
-here : {n m : ℕ} (cs ws : List ℕ) → n ≡ m → blended (formatOf m) true cs ws ≡ blended (formatOf n) true cs ws
+here : {n m : ℕ} (cs ws : List ℕ) → n ≡ m → flipped (formatOf m) cs ws ≡ flipped (formatOf n) cs ws
 here cs ws e = rw e
 
 flips-requires : tie.Need-flips-requires
@@ -33,28 +32,36 @@ same-length c = search needs
 
 returns : tie.Need-returns
 unfolding formatOf
-returns c = let a = c .before .before .before .before .before .before .before .args in c .before .before .flips .ensures ∙ here (a .colors .now) (a .words .now) (c .before .before .before .before .match .keys1)
+returns c =
+    let a = c .before .before .before .before .before .before .before .args in
+    c .before .before .flips .ensures ∙ here (a .colors .now) (a .words .now) (c .before .before .before .before .match .keys1)
 
 same-length-2 : tie.Need-same-length-2
 same-length-2 c = search needs
 
 returns-2 : tie.Need-returns-2
 unfolding formatOf
-returns-2 c = let a = c .before .before .before .before .before .before .before .args in c .before .before .flips2 .ensures ∙ here (a .colors .now) (a .words .now) (c .before .before .before .before .match .keys2)
+returns-2 c =
+    let a = c .before .before .before .before .before .before .before .args in
+    c .before .before .flips2 .ensures ∙ here (a .colors .now) (a .words .now) (c .before .before .before .before .match .keys2)
 
 same-length-3 : tie.Need-same-length-3
 same-length-3 c = search needs
 
 returns-3 : tie.Need-returns-3
 unfolding formatOf
-returns-3 c = let a = c .before .before .before .before .before .before .before .args in c .before .before .flips3 .ensures ∙ here (a .colors .now) (a .words .now) (c .before .before .before .before .match .keys3)
+returns-3 c =
+    let a = c .before .before .before .before .before .before .before .args in
+    c .before .before .flips3 .ensures ∙ here (a .colors .now) (a .words .now) (c .before .before .before .before .match .keys3)
 
 same-length-4 : tie.Need-same-length-4
 same-length-4 c = search needs
 
 returns-4 : tie.Need-returns-4
 unfolding formatOf
-returns-4 c = let a = c .before .before .before .before .before .before .before .args in c .before .before .flips4 .ensures ∙ here (a .colors .now) (a .words .now) (c .before .before .before .before .match .keys4)
+returns-4 c =
+    let a = c .before .before .before .before .before .before .before .args in
+    c .before .before .flips4 .ensures ∙ here (a .colors .now) (a .words .now) (c .before .before .before .before .match .keys4)
 
 same-length-5 : tie.Need-same-length-5
 same-length-5 c = search needs

@@ -4,6 +4,7 @@ use native.Mathlib.Omega.{arith}
 use Rattle.words.specs.Format.{formatOf, argb}
 use Rattle.words.specs.Word.{toColor}
 use Rattle.words.proofs.Reading.{read-channels}
+use Rattle.blending.specs.Blend.{ruleOf}
 use Rattle.blending.proofs.Tops.{set-rgb8, set-argb, set-abgr}
 use borrow.Author.Needs.{needs}
 use Rattle.blending.proofs.over.over.Statement.{statement}
@@ -36,20 +37,20 @@ returns-3 : tie.Need-returns-3
 unfolding formatOf
 returns-3 c =
     let a = c .before .before .args in
-    rw (c .before .match .keys3) (c .blend-rgb .ensures ∙ set-rgb8 (toColor argb (a .color)) (a .raw) (read-channels argb (a .color)))
+    rw (c .before .match .keys3) (c .blend-rgb .ensures ∙ set-rgb8 (ruleOf (a .rule)) (toColor argb (a .color)) (a .raw) (read-channels argb (a .color)))
 
 returns-4 : tie.Need-returns-4
 unfolding formatOf
 returns-4 c =
     let a = c .before .before .args in
-    rw (c .before .match .keys4) (c .blend-rgb2 .ensures ∙ set-argb (toColor argb (a .color)) (a .raw) (read-channels argb (a .color)))
+    rw (c .before .match .keys4) (c .blend-rgb2 .ensures ∙ set-argb (ruleOf (a .rule)) (toColor argb (a .color)) (a .raw) (read-channels argb (a .color)))
 
 returns-5 : tie.Need-returns-5
 unfolding formatOf
 returns-5 c =
     let a = c .before .before .args in
     let e : a .format ≡ 4 = omega arith in
-    rw e (c .blend-bgr .ensures ∙ set-abgr (toColor argb (a .color)) (a .raw) (read-channels argb (a .color)))
+    rw e (c .blend-bgr .ensures ∙ set-abgr (ruleOf (a .rule)) (toColor argb (a .color)) (a .raw) (read-channels argb (a .color)))
 
 pub over-spec : {M : Type 1} → statement M
 over-spec =

@@ -4,22 +4,25 @@ use Prim.Native.Nat.{_-_}
 use native.Mathlib.Omega.{arith}
 use borrow.Author.Needs.{needs}
 use Rattle.words.specs.Format.{formatOf}
+use Rattle.blending.specs.Blend.{ruleOf}
 use Rattle.blending.specs.Loops.{draw, blended}
 use Rattle.blending.proofs.Runs.{Made, make-first, make-more, made-all}
 use Rattle.blending.proofs.over.overs.Statement.{statement}
 use Rattle.blending.proofs.over.overs.Tie as tie
 
 abbrev Inv-loop : tie.InvT-loop
-Inv-loop format colors words₀ n i₀ words i = Made (draw (formatOf format) false) colors words₀ n words i
+Inv-loop format rule colors words₀ n i₀ words i = Made (draw (formatOf format) (ruleOf rule) false) colors words₀ n words i
 
 abbrev μ-loop : tie.MeasureT-loop
-μ-loop format colors words₀ n i₀ words i = n - i
+μ-loop format rule colors words₀ n i₀ words i = n - i
 
 shorter-requires : tie.Need-shorter-requires Inv-loop μ-loop
 shorter-requires c κs = search needs
 
 loop-holds : tie.Need-loop-holds Inv-loop μ-loop
-loop-holds c = let a = c .before .before .before .args in make-first (draw (formatOf (a .format)) false) (a .colors .now) (a .words .now) (c .shorter .result)
+loop-holds c =
+    let a = c .before .before .before .args in
+    make-first (draw (formatOf (a .format)) (ruleOf (a .rule)) false) (a .colors .now) (a .words .now) (c .shorter .result)
 
 mul-over : tie.Need-mul-over Inv-loop μ-loop
 mul-over c = omega arith
@@ -53,7 +56,11 @@ loop-again c =
     let a = c .before .before .before .before .before .before .before .before .args in
     let n = c .before .before .before .before .before .shorter in
     let l = c .before .before .before .before .loop in
-    make-more (draw (formatOf (a .format)) false) (a .colors .now) (a .words .now) (n .result) (l .words) (l .i) _ (omega arith) (omega arith) (omega arith) (l .inv)
+    make-more (draw (formatOf (a .format)) (ruleOf (a .rule)) false) (a .colors .now) (a .words .now) (n .result) (l .words) (l .i) _
+    (omega arith)
+    (omega arith)
+    (omega arith)
+    (l .inv)
     (c .over .ensures)
 
 same-length : tie.Need-same-length Inv-loop μ-loop
@@ -65,7 +72,10 @@ returns c =
     let a = c .before .before .before .before .before .args in
     let n = c .before .before .shorter in
     let l = c .before .loop in
-    made-all (draw (formatOf (a .format)) false) (a .colors .now) (a .words .now) (n .result) (l .words) (l .i) (n .ensures) (omega arith) (l .inv)
+    made-all (draw (formatOf (a .format)) (ruleOf (a .rule)) false) (a .colors .now) (a .words .now) (n .result) (l .words) (l .i)
+    (n .ensures)
+    (omega arith)
+    (l .inv)
 
 pub overs-spec : {M : Type 1} → statement M
 overs-spec =

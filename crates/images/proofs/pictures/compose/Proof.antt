@@ -4,6 +4,7 @@ use mathlib.Core.Bool.{Bool}
 use borrow.Author.Tests.{not-true}
 use Rattle.blending.specs.Loops.{blended}
 use Rattle.pixels.specs.Bytes.{form}
+use Rattle.canvas.specs.Call.{carried}
 use Rattle.images.proofs.pictures.Overlays.{solid-stores}
 use borrow.Author.Needs.{needs}
 use Rattle.images.proofs.pictures.compose.Statement.{statement}
@@ -16,7 +17,18 @@ same-length : tie.Need-same-length
 same-length c = search needs
 
 returns : tie.Need-returns
-returns c = c .before .before .store-words .ensures ∙ solid-stores (form (c .before .before .before .before .before .before .before .before .before .before .args .canvas)) (c .before .before .before .before .before .before .before .before .before .before .args .cs .now) (c .before .before .before .before .before .before .before .before .before .before .args .ws .now) (λ i l. c .before .before .before .before .before .before .before .before .before .before .pre .1 .solid (c .before .before .before .before .if2 .taken) i l) ∙ ap (λ (t : Bool). blended (form (c .before .before .before .before .before .before .before .before .before .before .args .canvas)) t (c .before .before .before .before .before .before .before .before .before .before .args .cs .now) (c .before .before .before .before .before .before .before .before .before .before .args .ws .now)) (sym (not-true _ (c .before .before .before .before .before .before .if1 .taken)))
+returns c =
+    let stores = c .before .before in
+    let solid = stores .before .before in
+    let off = solid .before .before in
+    let start = off .before .before .before .before in
+    let f = form (start .args .canvas) in
+    let k = carried (start .args .canvas) in
+    let cs = start .args .cs .now in
+    let ws = start .args .ws .now in
+    stores .store-words .ensures
+    ∙ solid-stores f k cs ws (λ i l. start .pre .1 .solid (solid .if2 .taken) i l)
+    ∙ ap (λ (t : Bool). blended f k t cs ws) (sym (not-true _ (off .if1 .taken)))
 
 blend-words-requires : tie.Need-blend-words-requires
 blend-words-requires c κs = search needs

@@ -22,9 +22,19 @@ word-requires-3 c κs = search needs
 word-requires-4 : tie.Need-word-requires-4
 word-requires-4 c κs = search needs
 
+add-word-3 : tie.Need-add-word-3
+add-word-3 c = search needs
+
+word-requires-5 : tie.Need-word-requires-5
+word-requires-5 c κs = search needs
+
 returns : tie.Need-returns
 unfolding canvasAt
-returns c = rw (c .before .before .before .word .ensures, c .before .before .word2 .ensures, c .before .word3 .ensures, c .word4 .ensures)
+returns c =
+    let row = c .before in
+    let height = row .before in
+    let width = height .before in
+    rw (width .before .word .ensures, width .word2 .ensures, height .word3 .ensures, row .word4 .ensures, c .word5 .ensures)
 
 pub sized-spec : {M : Type 1} → statement M
 sized-spec =
@@ -36,4 +46,6 @@ sized-spec =
     add-word-2
     word-requires-3
     word-requires-4
+    add-word-3
+    word-requires-5
     returns)

@@ -20,6 +20,9 @@ element-copy-out-t13 c = search needs
 element-copy-out-t16 : tie.Need-element-copy-out-t16
 element-copy-out-t16 c = search needs
 
+element-copy-out-t20 : tie.Need-element-copy-out-t20
+element-copy-out-t20 c = search needs
+
 returns : tie.Need-returns
 unfolding canvasOf
 returns c = refl
@@ -33,4 +36,5 @@ canvas-of-spec =
     element-copy-out-t10
     element-copy-out-t13
     element-copy-out-t16
+    element-copy-out-t20
     returns)
