@@ -30,7 +30,7 @@ factor a = div binary32 (channel a) (channel 255)
 unfoldable pub others : ℕ → Float
 others a = sub binary32 (channel 1) (factor a)
 
--- "The canvas carries a rule number", 1 or 2.
+-- "The canvas carries a rule number", 1 or 2; a canvas with another is refused before it is blended on.
 pub data Rule : Type 0 where
   rule1 : Rule
   rule2 : Rule

@@ -1,5 +1,5 @@
--- A float held to 0..255, what is mixed by an alpha and its two factors at hand, an ARGB word over three channels, and a colour scaled at any alpha.
--- Only inner contracts cite these.
+-- A float held to 0..255, what is mixed by an alpha and its two factors at hand, an ARGB word over three channels, and a colour scaled
+-- at any alpha. Only inner contracts cite these.
 use mathlib.Core.Path.{_≡_}
 use mathlib.Core.Bool.{cond, false}
 use Prim.Native.Nat.{ℕ, _%_, _<_}

@@ -1,5 +1,5 @@
 // Runs of words: those that `draw` reads, and those that it draws on. The compiler takes the choice by format out of
-// these loops, but not out of XOR's, which is called with each number by itself, nor that by rule.
+// these loops, but not out of XOR's and rule 2's, which are called with each number by itself.
 ghost use mathlib.Core.Path.{_≡_};
 ghost use Prim.Native.Nat.{_≤_, min};
 ghost use Rattle.words.specs.Format.{formatOf};

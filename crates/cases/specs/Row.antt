@@ -9,8 +9,8 @@ use Rattle.cases.specs.Line.{Left, Got, got}
 use Rattle.cases.specs.Number.{namedOf, numeric}
 use Rattle.cases.specs.Seed.{Sown, given, seedOf, fileOf}
 
--- The kinds: a an i32, b a switch, c a channel, d a seed, e a u32, f a file; 1 a rule; below a else a row length, whose width
--- stands so many words before it.
+-- The kinds: a an i32, b a switch, c a channel, d a seed, e a u32, f a file; 1 a rule; any other below a a row length, whose
+-- width stands so many words before it.
 abbrev pub a : ℕ
 a = 10
 

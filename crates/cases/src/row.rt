@@ -48,8 +48,8 @@ pub(crate) struct Args {
 }
 
 // What the arguments of an op are, a hex digit each, from the highest: a an i32, b a switch, c a channel, d a seed,
-// e a u32, f a file; 1 a rule; below a else a row length, whose width stands so many words before it. What is no op
-// has none.
+// e a u32, f a file; 1 a rule; any other below a a row length, whose width stands so many words before it. What is no
+// op has none.
 pub(crate) fn kinds(name: u64) -> u64
     ensures { λ r. ⌜ kindsIn 16 r ≡ rowOf name ⌝ }
 {
