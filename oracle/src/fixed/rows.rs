@@ -14,7 +14,11 @@ pub fn rows(ops: &[&'static str], list: &mut Vec<String>) {
     if ops.contains(&"draw") {
         images(list);
     }
-    angles_and_shapes(ops, list);
+    angles_and_shapes(
+        ["0 3 3 0 x010203040506 row=2", "0 3 3 0 x row=32768", "0 3 3 0 x010203 row=4", "0 3 3 0 7 row=4"],
+        ops,
+        list,
+    );
     unreadable(list);
     let random = Cases::new(300, 2, ops).with_rows();
     list.extend(random.filter(|case| case.contains("row=") && case.len() <= 200));
@@ -206,10 +210,10 @@ fn images(list: &mut Vec<String>) {
     }
 }
 
-/// A row that is refused, beside an angle and a box that are, and one that is accepted.
-fn angles_and_shapes(ops: &[&str], list: &mut Vec<String>) {
+/// Heads that are refused or not, beside angles and boxes that are.
+pub fn angles_and_shapes(heads: [&str; 4], ops: &[&str], list: &mut Vec<String>) {
     for &op in ops.iter().filter(|op| ["arc", "pie", "rrect", "frrect"].contains(op)) {
-        for head in ["0 3 3 0 x010203040506 row=2", "0 3 3 0 x row=32768", "0 3 3 0 x010203 row=4", "0 3 3 0 7 row=4"] {
+        for head in heads {
             for at in ["0 0 3 3 720 20", "0 0 3 3 721 20", "32768 0 3 3 720 20", "0 0 32768 3 20 721"] {
                 list.push(format!("{head} {op} {at} {COLOR} 0 0 9 9"));
             }

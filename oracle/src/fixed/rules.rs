@@ -1,8 +1,8 @@
 //! Blending rules. They stand behind all other cases, which keep their places.
 
 use super::images::veiled;
-use super::rows::args;
-use super::{COLOR, EVERYWHERE, areas, bytes, modes};
+use super::rows::{angles_and_shapes, args};
+use super::{EVERYWHERE, areas, bytes, modes};
 use crate::case::pixel_size;
 use crate::random::Cases;
 
@@ -19,7 +19,7 @@ pub fn rules(ops: &[&'static str], list: &mut Vec<String>) {
         placed(list);
         images(list);
     }
-    angles_and_shapes(ops, list);
+    angles_and_shapes(["0 3 3 0 7 rule=0", "0 3 3 0 7 rule=3", "0 3 3 0 7 rule=2", "0 3 3 0 x rule=2"], ops, list);
     unreadable(list);
     let random = Cases::new(u64::MAX, 3, ops).with_rows().with_rules();
     list.extend(random.filter(|case| case.contains("rule=") && case.len() <= 200).take(300));
@@ -152,17 +152,6 @@ fn images(list: &mut Vec<String>) {
     for canvas in ["5 1 1 0 x00 rule=0", "3 1 1 0 4 rule=3", "0 32768 1 0 3 rule=0", "0 32768 1 0 3 rule=2", "3 1 1 0 x rule=2"] {
         for image in ["5 1 1 x00 rule=0", "3 1 1 4 rule=3", "0 32768 1 3 rule=2", "3 1 1 x row=0 rule=0", "3 1 1 4 rule=2"] {
             list.push(format!("{canvas} draw 0 0 2 2 {image} 0 0 0 0 9 9"));
-        }
-    }
-}
-
-/// A rule that is refused, beside an angle and a box that are, and one that is accepted.
-fn angles_and_shapes(ops: &[&str], list: &mut Vec<String>) {
-    for &op in ops.iter().filter(|op| ["arc", "pie", "rrect", "frrect"].contains(op)) {
-        for head in ["0 3 3 0 7 rule=0", "0 3 3 0 7 rule=3", "0 3 3 0 7 rule=2", "0 3 3 0 x rule=2"] {
-            for at in ["0 0 3 3 720 20", "0 0 3 3 721 20", "32768 0 3 3 720 20", "0 0 32768 3 20 721"] {
-                list.push(format!("{head} {op} {at} {COLOR} 0 0 9 9"));
-            }
         }
     }
 }
