@@ -38,8 +38,8 @@ pub(crate) fn overs(format: u32, rule: u32, colors: &[u32], words: &mut [u32])
     }
 }
 
-// Rule 2. By literals in each call the loop is made once for each format, and for rule 1 apart: with one call for both
-// the rule would be asked for at each word.
+// Rule 2. By literals in each call the loop is made once for each format, and apart from rule 1's: called with the rule
+// alone as a literal, the compiled loop of both asks for the rule at each word.
 pub(crate) fn overs_rule2(format: u32, colors: &[u32], words: &mut [u32])
     requires { ⌜ format ≤ 4 ⌝ }
     ensures { λ _. ⌜ now (words .exit) ≡ blended (formatOf format) rule2 false (now (colors .entry)) (now (words .entry)) ⌝ }
