@@ -116,7 +116,7 @@ fn placed_at(k: u32, n: u32, s: f32, c: f32) -> f32
     turned(k / 2 + n % 2, even_or_odd(k, s, c))
 }
 
-#[derive(Drop)]
+#[derive(Clone, Copy)]
 pub struct SineCosine {
     pub sine: f32,
     pub cosine: f32,

@@ -1,10 +1,12 @@
 // Blending: what drawing a colour over the word stored makes of it.
+#![tactic(auto)]
+
 ghost use Rattle.std.specs.Prelude.{◌≡◌, true, false, ◌%◌, ◌<◌};
 ghost use Rattle.words.specs.Format.{format_of, rgb332, rgb565, argb, abgr};
 ghost use Rattle.words.specs.Word.{to_color};
 ghost use Rattle.words.specs.Ink.{plot_ink};
 ghost use Rattle.blending.specs.Blend.{part, scaled, factor, others, rule2, rule_of, blend_word, setting};
-ghost use Rattle.blending.specs.Blend.{mix as mixBy};
+ghost use Rattle.blending.specs.Blend.{mix as mix_by};
 ghost use Rattle.blending.specs.Inner.{mixed, Laid};
 
 mod cut;
@@ -49,7 +51,7 @@ pub fn blend_ink(format: u32, color: Color) -> Ink
 }
 
 // The channels of a blend.
-#[derive(Drop)]
+#[derive(Clone, Copy)]
 struct Mixed {
     r: u32,
     g: u32,
@@ -57,7 +59,7 @@ struct Mixed {
 }
 
 // An alpha, its factor, and the rest of 1, which falls to what is behind.
-#[derive(Drop)]
+#[derive(Clone, Copy)]
 struct Shares {
     alpha: u8,
     own: f32,
@@ -78,7 +80,7 @@ fn shares_of(a: u32) -> Shares
 
 // Rule 2 of one channel over another. In 16 bits the compiler divides several at a time.
 fn nearest(alpha: u8, c: u32, bg: u32) -> u32
-    ensures { (result ≡ mixBy rule2 alpha (c % 256) (bg % 256)) × (result < 256) }
+    ensures { (result ≡ mix_by rule2 alpha (c % 256) (bg % 256)) × (result < 256) }
 {
     let a = alpha as u16;
     let own = (c % 256) as u16 * a;

@@ -5,7 +5,7 @@ ghost use Rattle.canvas.specs.Faults.{or_else, verdict};
 use crate::Refusal;
 use pixels::Canvas;
 
-#[derive(Drop)]
+#[derive(Clone, Copy)]
 pub enum Verdict {
     Sound,
     Faulty(Refusal),

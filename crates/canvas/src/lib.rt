@@ -1,5 +1,7 @@
 // The canvas: a record by value beside lent bytes, clips, and the calls that draw points, lines and boxes; and what the
 // calls of images and ovals are made of.
+#![tactic(auto)]
+
 ghost use Rattle.std.specs.Prelude.{◌≡◌};
 ghost use Rattle.canvas.specs.Faults.{number};
 ghost use Rattle.canvas.specs.Clip.{intersection};
@@ -20,7 +22,7 @@ pub use look::get_pixel;
 pub use plot::put_pixel;
 use words::Color;
 
-#[derive(Drop)]
+#[derive(Clone, Copy)]
 pub struct Clip {
     pub x: i32,
     pub y: i32,
@@ -29,7 +31,7 @@ pub struct Clip {
 }
 
 // Why a call is refused.
-#[derive(Drop)]
+#[derive(Clone, Copy)]
 pub enum Refusal {
     Format,
     Size,
@@ -42,20 +44,20 @@ pub enum Refusal {
 }
 
 // What became of the plots so far.
-#[derive(Drop)]
+#[derive(Clone, Copy)]
 pub struct Tally {
     pub landed: u64,
 }
 
 // What a drawing call answers.
-#[derive(Drop)]
+#[derive(Clone, Copy)]
 pub enum Drawn {
     Refused(Refusal),
     Done(Tally),
 }
 
 // What get_pixel answers.
-#[derive(Drop)]
+#[derive(Clone, Copy)]
 pub enum Pixel {
     Refused(Refusal),
     Nothing,

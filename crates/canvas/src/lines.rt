@@ -18,7 +18,7 @@ use segments::{Clipped, Segment};
 use words::{Color, Ink};
 
 // Where a walk goes, lifted: its second end, how far that is from the first one, and which way.
-#[derive(Drop)]
+#[derive(Clone, Copy)]
 struct Way {
     x: u64,
     y: u64,
@@ -29,7 +29,7 @@ struct Way {
 }
 
 // Where it stands, lifted, and err + 2*dy, which is never negative.
-#[derive(Drop)]
+#[derive(Clone, Copy)]
 struct Pen {
     x: u64,
     y: u64,

@@ -2,11 +2,11 @@
 ghost use Rattle.std.specs.Prelude.{◌≡◌, ◌≤◌, ◌<◌, ◌+◌, [], ◌∷◌, ◌++◌, length};
 ghost use Rattle.cases.specs.Answer.{spelled, number, sides_text, found_text, answered};
 ghost use Rattle.cases.specs.Place.{Wrote};
-ghost use Rattle.cases.specs.Answer.{glyph as glyphOf, places as places_of};
+ghost use Rattle.cases.specs.Answer.{glyph as glyph_of, places as places_of};
 
 // What a call found: how many plots landed, a colour, nothing, an image's sides and how many of its pixels are clear, or
 // an icon's sides and where in its file its pixels start.
-#[derive(Drop)]
+#[derive(Clone, Copy)]
 pub enum Found {
     Count(u64),
     Argb(u32),
@@ -16,7 +16,7 @@ pub enum Found {
 }
 
 // The name is its letters, as a case has it.
-#[derive(Drop)]
+#[derive(Clone, Copy)]
 pub struct Answer {
     pub name: u64,
     pub status: u32,
@@ -46,7 +46,7 @@ const HASH: u64 = 0x20686173683d;
 // Ten digits, six letters, and above them each byte for itself.
 fn glyph(d: u64) -> u8
     requires { d < 256 }
-    ensures { result ≡ glyphOf d }
+    ensures { result ≡ glyph_of d }
 {
     if d < 10 {
         return 48 + d as u8;

@@ -3,7 +3,7 @@ ghost use Rattle.std.specs.Prelude.{◌≡◌, ℕ, ◌≤◌, ◌<◌, ◌+◌,
 ghost use Rattle.cases.specs.Place.{sown, read_args, Within, Fills};
 ghost use Rattle.cases.specs.Case.{exactly, fitting, capped, no_case, laid_out, case_of};
 ghost use Rattle.cases.specs.Seed.{first_bytes};
-ghost use Rattle.cases.specs.Case.{lent as lentTo};
+ghost use Rattle.cases.specs.Case.{lent as lent_to};
 
 use crate::number::read_name;
 use crate::row::{Args, kinds, read_args};
@@ -11,7 +11,7 @@ use crate::seed::{Seed, sow};
 
 // The op's name, or 0 where the line can't be read; the numbers before it, those behind it, and how many bytes the
 // canvas and the image beside it have.
-#[derive(Drop)]
+#[derive(Clone, Copy)]
 pub struct Case {
     pub name: u64,
     pub head: [u32; 16],
@@ -50,7 +50,7 @@ fn lent(n: [u32; 16], i: usize, j: usize, seed: Seed, room: usize) -> usize
     requires i_bound { i < 14 }
     requires j_bound { j < 16 }
     requires room_bound { room < 2 ^ 63 }
-    ensures by_index { (line : List ℕ) → fitting room result ≡ capped room (lentTo (get_or n i 0) (get_or n j 0) (get_or n (i + 2) 0) (sown line seed)) }
+    ensures by_index { (line : List ℕ) → fitting room result ≡ capped room (lent_to (get_or n i 0) (get_or n j 0) (get_or n (i + 2) 0) (sown line seed)) }
     ensures fills { Fills seed result }
 {
     let format = n[i];

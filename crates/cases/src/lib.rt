@@ -1,4 +1,6 @@
 // The text of cases: a line is read into numbers and first bytes; an answer is written as a line.
+#![tactic(auto)]
+
 mod answer;
 mod case;
 mod fnv;

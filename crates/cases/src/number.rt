@@ -5,14 +5,14 @@ ghost use Rattle.cases.specs.Line.{next};
 ghost use Rattle.cases.specs.Place.{left_at, word_ends, this_letter, one_letter, one_digit, read, read_name};
 ghost use Rattle.cases.specs.Number.{number_of, behind, named_of, numeric, name_of};
 
-#[derive(Drop)]
+#[derive(Clone, Copy)]
 pub(crate) struct Number {
     pub value: u32,
     pub next: usize,
 }
 
 // The letters of a word as a number, the first one highest.
-#[derive(Drop)]
+#[derive(Clone, Copy)]
 pub(crate) struct Name {
     pub letters: u64,
     pub next: usize,

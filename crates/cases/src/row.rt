@@ -37,7 +37,7 @@ pub const RES: u64 = 0x726573;
 
 // The arguments that were read: those that are numbers, each at its place among the words, the seed or the file, and
 // the place after them.
-#[derive(Drop)]
+#[derive(Clone, Copy)]
 pub(crate) struct Args {
     pub numbers: [u32; 16],
     pub seed: Seed,

@@ -3,11 +3,11 @@ ghost use Rattle.std.specs.Prelude.{◌≡◌, ◌≤◌, ◌<◌, ◌+◌, ◌*
 ghost use Rattle.cases.specs.Line.{next};
 ghost use Rattle.cases.specs.Place.{left_at, read_seed, Within, Fills, sown, two_digits, pairs};
 ghost use Rattle.cases.specs.Seed.{seed_of, counted, given_hex, file_of, first_bytes, turns};
-ghost use Rattle.cases.specs.Seed.{nibble as nibbleOf};
+ghost use Rattle.cases.specs.Seed.{nibble as nibble_of};
 
 use crate::number::{ends, read_name, read_number};
 
-#[derive(Drop)]
+#[derive(Clone, Copy)]
 pub(crate) enum Seed {
     Zeros,
     Number(u32),
@@ -15,7 +15,7 @@ pub(crate) enum Seed {
     Bytes(usize, usize),
 }
 
-#[derive(Drop)]
+#[derive(Clone, Copy)]
 pub(crate) struct Seeded {
     pub seed: Seed,
     pub next: usize,
@@ -113,7 +113,7 @@ fn read_hex(line: &[u8], at: usize) -> Seeded
 
 // What a hex digit stands for; 16 for what is none.
 fn nibble(b: u8) -> u8
-    ensures { result ≡ nibbleOf b }
+    ensures { result ≡ nibble_of b }
 {
     if b < 48 {
         return 16;

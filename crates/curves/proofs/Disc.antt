@@ -110,6 +110,7 @@ at_least (fin false m e) n K p = go (dec_lt 0 n)
     small a d h f = omega arith
 
     large : (a n d : ℕ) → 0 < n → a ≡ n * d → 1 * 1 * d ≤ a
+    large a zero d h f = elim h [ ]
     large a (suc n) d h f = omega arith
 
     pick : (b c : Bool) → b ≡ c → HasValue (cond (c || false) half (fin false m e)) false (max n 1) 2 → HasValue (cond (b || false) half (fin false m e)) false (max n 1) 2

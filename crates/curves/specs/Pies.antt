@@ -1,5 +1,5 @@
 -- Pies: which points of its box one takes. Definitions only.
-use Rattle.std.specs.Prelude.{◌≡◌, ℕ, ◌+◌, ◌-◌, ◌%◌, ◌<◌, ◌≤◌, Bool, true, false, cond, not, ◌&&◌, ℤ, pos, ◌+ℤ◌, int_le, int_lt, nat_le, unsigned_abs, Float}
+use Rattle.std.specs.Prelude.{◌≡◌, ℕ, ◌-◌, ◌%◌, ◌<◌, ◌≤◌, Bool, true, false, cond, not, ◌&&◌, ℤ, pos, ◌+ℤ◌, int_le, int_lt, nat_le, unsigned_abs, Float}
 use Rattle.std.specs.Float.{fin, binary32}
 use Rattle.std.specs.Float.Ieee.{of_int, neg, add, sub, mul, div, lt, le, eq}
 use Rattle.floats.specs.Size.{plus_zero, one, abs_of, max_of, sign_of}

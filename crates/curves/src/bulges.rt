@@ -7,7 +7,7 @@ use crate::corners::smaller;
 
 // A side of a box of `count` places, of which the arcs at both ends take `arc` halves. A place's offset from the nearest centre is
 // that from the middle less what is straight, count - 1 - arc halves, and is divided by `by` halves.
-#[derive(Drop)]
+#[derive(Clone, Copy)]
 pub struct Side {
     pub count: u32,
     pub arc: u32,

@@ -5,7 +5,7 @@ ghost use Rattle.curves.specs.Corners.{radius_of, inset_of, corners_of, corner_o
 use crate::oval::Oval;
 
 // The centres' columns and rows, and the radii.
-#[derive(Drop)]
+#[derive(Clone, Copy)]
 pub struct Corners {
     pub left: f32,
     pub right: f32,

@@ -2,7 +2,7 @@
 ghost use Rattle.std.specs.Prelude.{◌≡◌};
 ghost use Rattle.curves.specs.Oval.{half_axis, oval_of};
 
-#[derive(Drop)]
+#[derive(Clone, Copy)]
 pub struct Oval {
     pub cx: f32,
     pub cy: f32,

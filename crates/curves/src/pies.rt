@@ -10,7 +10,7 @@ ghost use Rattle.curves.specs.Pies.{is_whole, degrees_of, flank_of, eighth_of, S
 use crate::oval::{Oval, oval_in};
 
 // The degrees that a pie covers: all, none, or `length` of them from `start` on.
-#[derive(Drop)]
+#[derive(Clone, Copy)]
 pub struct Sweep {
     pub all: bool,
     pub none: bool,
@@ -19,7 +19,7 @@ pub struct Sweep {
 }
 
 // A part sweep in whole degrees, where it is one: how far past its start the direction of 0 degrees lies, and its length.
-#[derive(Drop)]
+#[derive(Clone, Copy)]
 pub struct Degrees {
     pub whole: bool,
     pub from: u64,
@@ -27,7 +27,7 @@ pub struct Degrees {
 }
 
 // The oval of its box, and its sweep.
-#[derive(Drop)]
+#[derive(Clone, Copy)]
 pub struct Pie {
     pub oval: Oval,
     pub sweep: Sweep,

@@ -1,11 +1,15 @@
 // Lines of an input, one after the other, and the answers to them, written before more is waited for. A program holds a text,
 // of which a place says how much is read and where its line is, and out, of which a place says how much is used.
+#![tactic(auto)]
+
 ghost use Rattle.std.specs.Prelude.{◌≡◌, ◌≤◌, ◌-◌, min, [], length, take};
 ghost use Rattle.std.proofs.Math.Seq.{slice, paste};
 ghost use Rattle.dialogue.specs.Line.{first_line, OneLine, Stands, top, start, ahead, Follows};
 
+use std::io::{Read, Write};
+
 // What is at a place: a line, the end of the input, or what could not be done.
-#[derive(Drop)]
+#[derive(Clone, Copy)]
 pub enum Turn {
     Line,
     End,
@@ -13,7 +17,7 @@ pub enum Turn {
     Unwritten,
 }
 
-#[derive(Drop)]
+#[derive(Clone, Copy)]
 pub struct Place {
     pub turn: Turn,
     pub at: usize,
@@ -73,7 +77,7 @@ fn keep(text: &mut [u8], at: usize, held: usize) -> usize
 }
 
 // What is kept of the text, how much is held with what was read behind it, and whether reading failed.
-#[derive(Drop)]
+#[derive(Clone, Copy)]
 struct Filled {
     kept: usize,
     held: usize,
@@ -81,17 +85,22 @@ struct Filled {
 }
 
 // Keeps a part of the text, at its start, and reads behind it, once.
-fn refill(input: i32, text: &mut [u8], at: usize, held: usize) -> Filled
+fn refill<R: Read>(input: &mut R, text: &mut [u8], at: usize, held: usize) -> Filled
     requires { (at ≤ held) × ((held ≤ length text.old) × OneLine (slice at held text.old)) }
     ensures { (result.kept ≤ result.held) × ((result.held ≤ length text.old) × OneLine (take result.kept text.new)) }
 {
     let kept = keep(text, at, held);
-    let got = libc::read(input, &mut text[kept..]);
-    let n = io::count(got, &text[kept..]);
-    Filled {
-        kept,
-        held: kept + n,
-        failed: got < 0,
+    match input.read(&mut text[kept..]) {
+        Ok(n) => Filled {
+            kept,
+            held: kept + n,
+            failed: false,
+        },
+        Err(_) => Filled {
+            kept,
+            held: kept,
+            failed: true,
+        },
     }
 }
 
@@ -128,7 +137,7 @@ fn last_line(n: usize, failed: bool) -> Place
 }
 
 // Reads until a line is whole. A proved loop has to end, so it counts its turns down from a number that no run uses up.
-fn wait(input: i32, text: &mut [u8], from: usize, to: usize) -> Place
+fn wait<R: Read>(input: &mut R, text: &mut [u8], from: usize, to: usize) -> Place
     requires { (from ≤ to) × ((to ≤ length text.old) × OneLine (slice from to text.old)) }
     ensures { Stands result text.new [] }
 {
@@ -174,9 +183,28 @@ fn found(text: &[u8], last: Place, most: usize) -> Place
     }
 }
 
+// Writes all of out, or stops at the first write that takes nothing or fails.
+fn write_whole<W: Write>(output: &mut W, out: &[u8]) -> bool {
+    let mut done = 0;
+    while done < out.len() {
+        match output.write(&out[done..]) {
+            Ok(0) | Err(_) => return false,
+            Ok(n) => done += n,
+        }
+    }
+    true
+}
+
 // The line behind the last one. Where none is whole, or less than so much room is left in out, what is used of out is written
 // first; then more is read.
-pub fn next(input: i32, output: i32, text: &mut [u8], out: &[u8], last: Place, room: usize) -> Place
+pub fn next<R: Read, W: Write>(
+    input: &mut R,
+    output: &mut W,
+    text: &mut [u8],
+    out: &[u8],
+    last: Place,
+    room: usize,
+) -> Place
     ensures stands { Stands result text.new out.now }
     ensures follows { Follows last result text.old text.new }
 {
@@ -186,7 +214,7 @@ pub fn next(input: i32, output: i32, text: &mut [u8], out: &[u8], last: Place, r
     if whole & (room <= out.len() - used) {
         return p;
     }
-    if !io::write_all(output, &out[..used]) {
+    if !write_whole(output, &out[..used]) {
         return stop(Turn::Unwritten);
     }
     if whole {

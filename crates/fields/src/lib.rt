@@ -1,4 +1,6 @@
 // Fields of files: little-endian numbers at a place.
+#![tactic(auto)]
+
 ghost use Rattle.std.specs.Prelude.{◌≡◌, ◌+◌, ◌≤◌, ◌<◌, length};
 ghost use Rattle.fields.specs.Fields.{u8_at, u16_at, u32_at};
 

@@ -1,4 +1,6 @@
 // Floats: what the Rust's methods and casts answer, for every float.
+#![tactic(auto)]
+
 mod degrees;
 mod size;
 mod whole;

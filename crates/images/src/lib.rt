@@ -1,4 +1,6 @@
 // The calls that draw images and copy areas.
+#![tactic(auto)]
+
 mod copy;
 mod pictures;
 

@@ -5,7 +5,7 @@ ghost use Rattle.pixels.specs.Bytes.{form, Sized};
 ghost use Rattle.canvas.specs.Faults.{verdict, as_source};
 ghost use Rattle.pixels.specs.Hits.{paint};
 ghost use Rattle.canvas.specs.Call.{carried, leaves, call};
-ghost use Rattle.canvas.specs.Call.{draw as drawCall};
+ghost use Rattle.canvas.specs.Call.{draw as draw_call};
 ghost use Rattle.pixels.specs.Rows.{run, marks, field};
 ghost use Rattle.images.specs.Chunks.{overlaid, Solid};
 ghost use Rattle.canvas.specs.Walk.{Sourced};
@@ -183,7 +183,7 @@ pub fn draw(
     sy: i32,
     clip: Clip,
 ) -> Drawn
-    ensures { leaves result bytes.new ≡ call canvas (drawCall dx dy w h source image.now sx sy clip) bytes.old }
+    ensures { leaves result bytes.new ≡ call canvas (draw_call dx dy w h source image.now sx sy clip) bytes.old }
 {
     match judge(canvas, bytes.len()) {
         Verdict::Faulty(r) => Drawn::Refused(r),

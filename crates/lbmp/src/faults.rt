@@ -5,7 +5,7 @@ ghost use Rattle.lbmp.specs.Faults.{area_fault, twice_fault, kind_fault, field_f
 use crate::Refusal;
 use crate::header::{Header, Kind, kind_of};
 
-#[derive(Drop)]
+#[derive(Clone, Copy)]
 pub(crate) enum Verdict {
     Sound,
     Faulty(Refusal),

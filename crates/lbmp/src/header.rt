@@ -6,7 +6,7 @@ ghost use Rattle.lbmp.specs.Walk.{Whole};
 
 use fields::u32_at;
 
-#[derive(Drop)]
+#[derive(Clone, Copy)]
 pub(crate) struct Header {
     pub(crate) kind: u32,
     pub(crate) width: u32,
@@ -16,7 +16,7 @@ pub(crate) struct Header {
 }
 
 // How the pixels are stored.
-#[derive(Drop)]
+#[derive(Clone, Copy)]
 pub(crate) enum Kind {
     Greys,
     Rgb332,

@@ -1,4 +1,6 @@
 // LBMP, the phone's bitmap file: judged, and decoded to ARGB words.
+#![tactic(auto)]
+
 ghost use Rattle.std.specs.Prelude.{◌≡◌};
 ghost use Rattle.lbmp.specs.Faults.{number};
 ghost use Rattle.lbmp.specs.Call.{reads, judgement, outcome, decoding};
@@ -11,7 +13,7 @@ mod planes;
 use faults::Verdict;
 
 // Why a file is refused.
-#[derive(Drop)]
+#[derive(Clone, Copy)]
 pub enum Refusal {
     Invalid,
     BadType,
@@ -19,7 +21,7 @@ pub enum Refusal {
 }
 
 // The sides of an image, and how many of its pixels are transparent.
-#[derive(Drop)]
+#[derive(Clone, Copy)]
 pub struct Image {
     pub width: u32,
     pub height: u32,
@@ -27,7 +29,7 @@ pub struct Image {
 }
 
 // What judging and decoding answer.
-#[derive(Drop)]
+#[derive(Clone, Copy)]
 pub enum Judged {
     Refused(Refusal),
     Sound(Image),

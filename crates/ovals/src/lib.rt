@@ -1,4 +1,6 @@
 // The calls that draw arcs, pies and round rectangles.
+#![tactic(auto)]
+
 mod faults;
 mod fills;
 mod rounds;

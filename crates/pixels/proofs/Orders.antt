@@ -28,8 +28,8 @@ touch_screen {v} {b} h c = record { long = length-store v b h.x h.y _ ∙ c.long
 
 pub paint_screen : {v : Canvas} {b : List ℕ} (hs : List Hit) → Screen v b → Screen v (paint v hs b)
 unfolding paint
-paint_screen [] c = c
-paint_screen (h ∷ hs) c = paint_screen hs (touch_screen h c)
+paint_screen {v = v} {b = b} [] c = c
+paint_screen {v = v} {b = b} (h ∷ hs) c = paint_screen {b = touch v b h} hs (touch_screen h c)
 
 -- What a family Ok of hits has to meet: they are on the canvas, keep to the word's range, and commute where they meet.
 pub record Family (v : Canvas) (Ok : Hit → Type 0) : Type 0 where

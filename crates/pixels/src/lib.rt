@@ -1,11 +1,13 @@
 // The canvas record, and the words of its pixels in the lent bytes: one by one, by rows and by chunks.
+#![tactic(auto)]
+
 pub mod bytes;
 pub mod chunks;
 pub mod rows;
 
 // A canvas is a format number, width, height, row length in pixels, XOR switch and number of a blending rule; its bytes
 // are lent beside it.
-#[derive(Drop)]
+#[derive(Clone, Copy)]
 pub struct Canvas {
     pub format: u32,
     pub width: u32,

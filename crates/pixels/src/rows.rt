@@ -10,7 +10,7 @@ use crate::bytes::{index, touch1, touch2, touch4};
 use words::Ink;
 
 // Columns or rows of the canvas, from one up to but not including another.
-#[derive(Drop)]
+#[derive(Clone, Copy)]
 pub struct Span {
     pub from: usize,
     pub to: usize,

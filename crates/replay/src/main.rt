@@ -1,15 +1,19 @@
 // Reads cases from standard input, one a line, and writes a line for each to standard output.
+#![tactic(auto)]
+
 ghost use Rattle.std.specs.Prelude.{◌≡◌, length};
 
 use dialogue::{Place, Turn};
-use libc::{STDERR_FILENO, STDIN_FILENO, STDOUT_FILENO};
+use std::io::{Read, Write};
 
 // No answer is longer.
 const ROOM: usize = 144;
 
 // Answers all of standard input, and says why it stopped. A proved loop has to end, so it counts its turns down from a number
 // that no run uses up.
-fn serve(
+fn serve<R: Read, W: Write>(
+    input: &mut R,
+    output: &mut W,
     text: &mut [u8],
     bytes: &mut [u8],
     image: &mut [u8],
@@ -19,7 +23,7 @@ fn serve(
     let mut s = dialogue::START;
     let mut left = u64::MAX;
     while 0 < left {
-        let p = dialogue::next(STDIN_FILENO, STDOUT_FILENO, text, out, s, ROOM);
+        let p = dialogue::next(input, output, text, out, s, ROOM);
         let turn = p.turn;
         let Turn::Line = turn else {
             return turn;
@@ -41,15 +45,11 @@ fn serve(
 }
 
 // Says on standard error what could not be done.
-fn tell(turn: Turn) {
+fn tell(rt: &HostRuntime, turn: Turn) -> std::io::Result<()> {
     match turn {
-        Turn::Unread => {
-            io::write_all(STDERR_FILENO, b"replay: standard input can't be read\n");
-        }
-        Turn::Unwritten => {
-            io::write_all(STDERR_FILENO, b"replay: standard output can't be written\n");
-        }
-        _ => {}
+        Turn::Unread => rt.stderr().write_all(b"replay: standard input can't be read\n"),
+        Turn::Unwritten => rt.stderr().write_all(b"replay: standard output can't be written\n"),
+        _ => Ok(()),
     }
 }
 
@@ -67,12 +67,29 @@ fn blank() -> [u32; 131072]
     [0; 131072]
 }
 
-fn main() {
+// Room for the answers that wait to be written.
+fn answers() -> [u8; 65536]
+    ensures { 65536 ≡ length result }
+{
+    [0; 65536]
+}
+
+fn main(rt: HostRuntime) -> std::io::Result<()> {
     let mut text = buffer();
     let mut bytes = buffer();
     let mut image = buffer();
     let mut words = blank();
-    let mut out = io::large_buffer();
-    let turn = serve(&mut text, &mut bytes, &mut image, &mut words, &mut out);
-    tell(turn);
+    let mut out = answers();
+    let mut input = rt.stdin();
+    let mut output = rt.stdout();
+    let turn = serve(
+        &mut input,
+        &mut output,
+        &mut text,
+        &mut bytes,
+        &mut image,
+        &mut words,
+        &mut out,
+    );
+    tell(&rt, turn)
 }

@@ -3,7 +3,7 @@ ghost use Rattle.std.specs.Prelude.{◌≡◌, min};
 ghost use Rattle.canvas.specs.Call.{status_of, count_of};
 ghost use Rattle.canvas.specs.Look.{reads, pixel_at};
 ghost use Rattle.lbmp.specs.Call.{reading, decoding};
-ghost use Rattle.lbmp.specs.Call.{reads as judgedAs};
+ghost use Rattle.lbmp.specs.Call.{reads as judged_as};
 ghost use Rattle.cases.specs.Hash.{hash_of};
 ghost use Rattle.replies.specs.Numbers.{int_at};
 ghost use Rattle.replies.specs.Answers.{told, drawn, drew, looked, decoded_by, bitmap_of, start_of, icon_of, response, respond_to};
@@ -75,7 +75,7 @@ fn get(n: [u32; 16], v: Canvas, bytes: &[u8]) -> Answer
 }
 
 // What a file's reading gives: its status, the image's sides and how many pixels are clear.
-#[derive(Drop)]
+#[derive(Clone, Copy)]
 struct Sides {
     status: u32,
     w: u32,
@@ -84,7 +84,7 @@ struct Sides {
 }
 
 fn judged(j: Judged) -> Sides
-    ensures { reading result.status result.w result.h result.clear ≡ judgedAs j }
+    ensures { reading result.status result.w result.h result.clear ≡ judged_as j }
 {
     match j {
         Judged::Refused(r) => Sides {

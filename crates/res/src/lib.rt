@@ -1,4 +1,6 @@
 // RES, the phone's file of icons: its first static icon.
+#![tactic(auto)]
+
 ghost use Rattle.std.specs.Prelude.{◌≡◌};
 ghost use Rattle.res.specs.Search.{number, first_icon, icon_pixels};
 
@@ -7,7 +9,7 @@ mod records;
 use records::{Step, is_res, step_at};
 
 // Why a file is refused.
-#[derive(Drop)]
+#[derive(Clone, Copy)]
 pub enum Refusal {
     Res,
     Depth,
@@ -16,7 +18,7 @@ pub enum Refusal {
 }
 
 // Where an icon's pixels start in the file, a byte each, and its sides.
-#[derive(Drop)]
+#[derive(Clone, Copy)]
 pub struct Icon {
     pub start: usize,
     pub width: u32,
@@ -24,7 +26,7 @@ pub struct Icon {
 }
 
 // What the search answers.
-#[derive(Drop)]
+#[derive(Clone, Copy)]
 pub enum Found {
     Refused(Refusal),
     Here(Icon),

@@ -6,7 +6,7 @@ use crate::{Icon, Refusal};
 use fields::u8_at;
 
 // The icon, where the next record begins, or why the search is over.
-#[derive(Drop)]
+#[derive(Clone, Copy)]
 pub(crate) enum Step {
     Here(Icon),
     Next(usize),

@@ -1,15 +1,17 @@
 // Segments: what a canvas with a margin of one pixel has of them, kept or cut by Liang and Barsky in f64.
+#![tactic(auto)]
+
 ghost use Rattle.std.specs.Prelude.{◌≡◌};
 ghost use Rattle.segments.specs.Cut.{near, inside, kept, narrowed, parameters, end, clip_segment};
 
 // What is left of a segment: its entry and exit parameters.
-#[derive(Drop)]
+#[derive(Clone, Copy)]
 pub enum Cut {
     Part(f64, f64),
     Nothing,
 }
 
-#[derive(Drop)]
+#[derive(Clone, Copy)]
 pub struct Segment {
     pub x1: i32,
     pub y1: i32,
@@ -18,7 +20,7 @@ pub struct Segment {
 }
 
 // What is left of it, by its ends.
-#[derive(Drop)]
+#[derive(Clone, Copy)]
 pub enum Clipped {
     Left(Segment),
     Nothing,

@@ -6,8 +6,7 @@ ghost use Rattle.tuyrashka.specs.Exported.{canvas_of, source_of, clip_of, gives}
 
 use crate::records::{canvas_of, clip_of, give_drawn, source_of};
 
-#[unsafe(no_mangle)]
-pub extern "C" fn tuyrashka_invert_rect(
+pub fn tuyrashka_invert_rect(
     canvas: &[u32; 6],
     bytes: &mut [u8],
     x: i32,
@@ -26,8 +25,7 @@ pub extern "C" fn tuyrashka_invert_rect(
     give_drawn(d, drawn)
 }
 
-#[unsafe(no_mangle)]
-pub extern "C" fn tuyrashka_copy_area(
+pub fn tuyrashka_copy_area(
     canvas: &[u32; 6],
     bytes: &mut [u8],
     dx: i32,
@@ -48,8 +46,7 @@ pub extern "C" fn tuyrashka_copy_area(
     d.status()
 }
 
-#[unsafe(no_mangle)]
-pub extern "C" fn tuyrashka_draw(
+pub fn tuyrashka_draw(
     canvas: &[u32; 6],
     bytes: &mut [u8],
     dx: i32,

@@ -6,8 +6,7 @@ ghost use Rattle.tuyrashka.specs.Exported.{gives_bitmap};
 use crate::records::give_size;
 use lbmp::Judged;
 
-#[unsafe(no_mangle)]
-pub extern "C" fn tuyrashka_decode_lbmp(
+pub fn tuyrashka_decode_lbmp(
     file: &[u8],
     out: &mut [u32],
     size: &mut [u32; 2],

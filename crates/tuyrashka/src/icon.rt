@@ -6,8 +6,7 @@ ghost use Rattle.tuyrashka.specs.Exported.{gives_icon};
 use crate::records::give_size;
 use res::Found;
 
-#[unsafe(no_mangle)]
-pub extern "C" fn tuyrashka_decode_res(file: &[u8], start: &mut usize, size: &mut [u32; 2]) -> u32
+pub fn tuyrashka_decode_res(file: &[u8], start: &mut usize, size: &mut [u32; 2]) -> u32
     ensures { (result, (start.new, size.new)) ≡ gives_icon (reads (first_icon file.now)) }
 {
     let f = res::decode_res(file);

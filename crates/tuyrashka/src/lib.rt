@@ -1,4 +1,6 @@
-// What C and Rust link, declared in include/tuyrashka.h: points, lines and boxes.
+// The calls on records, numbers and slices, as include/tuyrashka.h declares them: points, lines and boxes. tuyrashka_c is what C links.
+#![tactic(auto)]
+
 ghost use Rattle.std.specs.Prelude.{◌≡◌};
 ghost use Rattle.canvas.specs.Call.{put_pixel, draw_line, draw_rect, fill_rect, call};
 ghost use Rattle.canvas.specs.Clip.{intersection};
@@ -20,8 +22,7 @@ pub use rounds::{
     tuyrashka_draw_arc, tuyrashka_draw_round_rect, tuyrashka_fill_arc, tuyrashka_fill_round_rect,
 };
 
-#[unsafe(no_mangle)]
-pub extern "C" fn tuyrashka_put_pixel(
+pub fn tuyrashka_put_pixel(
     canvas: &[u32; 6],
     bytes: &mut [u8],
     x: i32,
@@ -40,8 +41,7 @@ pub extern "C" fn tuyrashka_put_pixel(
     give_drawn(d, drawn)
 }
 
-#[unsafe(no_mangle)]
-pub extern "C" fn tuyrashka_draw_line(
+pub fn tuyrashka_draw_line(
     canvas: &[u32; 6],
     bytes: &mut [u8],
     x1: i32,
@@ -62,8 +62,7 @@ pub extern "C" fn tuyrashka_draw_line(
     give_drawn(d, drawn)
 }
 
-#[unsafe(no_mangle)]
-pub extern "C" fn tuyrashka_draw_rect(
+pub fn tuyrashka_draw_rect(
     canvas: &[u32; 6],
     bytes: &mut [u8],
     x: i32,
@@ -84,8 +83,7 @@ pub extern "C" fn tuyrashka_draw_rect(
     give_drawn(d, drawn)
 }
 
-#[unsafe(no_mangle)]
-pub extern "C" fn tuyrashka_fill_rect(
+pub fn tuyrashka_fill_rect(
     canvas: &[u32; 6],
     bytes: &mut [u8],
     x: i32,
@@ -106,8 +104,7 @@ pub extern "C" fn tuyrashka_fill_rect(
     give_drawn(d, drawn)
 }
 
-#[unsafe(no_mangle)]
-pub extern "C" fn tuyrashka_get_pixel(
+pub fn tuyrashka_get_pixel(
     canvas: &[u32; 6],
     bytes: &[u8],
     x: i32,
@@ -132,8 +129,7 @@ pub extern "C" fn tuyrashka_get_pixel(
     }
 }
 
-#[unsafe(no_mangle)]
-pub extern "C" fn tuyrashka_clip_intersect(a: &[u32; 4], b: &[u32; 4], both: &mut [u32; 4])
+pub fn tuyrashka_clip_intersect(a: &[u32; 4], b: &[u32; 4], both: &mut [u32; 4])
     ensures { both.new ≡ words_of (intersection (clip_of a.now) (clip_of b.now)) }
 {
     let c = clip_of(a);

@@ -6,8 +6,7 @@ ghost use Rattle.tuyrashka.specs.Exported.{canvas_of, clip_of, color_of, gives};
 
 use crate::records::{canvas_of, clip_of, color_of, give_drawn};
 
-#[unsafe(no_mangle)]
-pub extern "C" fn tuyrashka_draw_arc(
+pub fn tuyrashka_draw_arc(
     canvas: &[u32; 6],
     bytes: &mut [u8],
     x: i32,
@@ -30,8 +29,7 @@ pub extern "C" fn tuyrashka_draw_arc(
     give_drawn(d, drawn)
 }
 
-#[unsafe(no_mangle)]
-pub extern "C" fn tuyrashka_fill_arc(
+pub fn tuyrashka_fill_arc(
     canvas: &[u32; 6],
     bytes: &mut [u8],
     x: i32,
@@ -54,8 +52,7 @@ pub extern "C" fn tuyrashka_fill_arc(
     give_drawn(d, drawn)
 }
 
-#[unsafe(no_mangle)]
-pub extern "C" fn tuyrashka_draw_round_rect(
+pub fn tuyrashka_draw_round_rect(
     canvas: &[u32; 6],
     bytes: &mut [u8],
     x: i32,
@@ -78,8 +75,7 @@ pub extern "C" fn tuyrashka_draw_round_rect(
     give_drawn(d, drawn)
 }
 
-#[unsafe(no_mangle)]
-pub extern "C" fn tuyrashka_fill_round_rect(
+pub fn tuyrashka_fill_round_rect(
     canvas: &[u32; 6],
     bytes: &mut [u8],
     x: i32,

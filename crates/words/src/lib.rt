@@ -1,4 +1,6 @@
 // The words of a pixel: colours, storing, reading and XOR by format number.
+#![tactic(auto)]
+
 ghost use Rattle.std.specs.Prelude.{◌≡◌, ◌+◌, ◌%◌, ◌<◌};
 ghost use Rattle.words.specs.Format.{format_of, bytes_per_pixel, rgb332, rgb565, rgb8, argb, abgr};
 ghost use Rattle.words.specs.Word.{from_color, to_color, level5, level6};
@@ -9,7 +11,7 @@ ghost use Rattle.words.specs.Invert.{invert_ink};
 mod colors;
 mod levels;
 
-#[derive(Drop)]
+#[derive(Clone, Copy)]
 pub struct Color {
     pub a: u8,
     pub r: u8,
@@ -18,7 +20,7 @@ pub struct Color {
 }
 
 // What a plot does to the word stored: it keeps some bits of it, and then flips some.
-#[derive(Drop)]
+#[derive(Clone, Copy)]
 pub struct Ink {
     pub keep: u32,
     pub flip: u32,

@@ -1,5 +1,5 @@
 -- The numbers of the error budget of the ratio's rule, all closed. Assumes nothing.
-use Rattle.std.proofs.Common.{ℕ, ◌+◌, ◌-◌, ◌*◌, ◌/◌, ◌^◌, ◌≤◌, lit≤}
+use Rattle.std.proofs.Common.{ℕ, ◌+◌, ◌*◌, ◌/◌, ◌^◌, ◌≤◌, lit≤}
 use Rattle.angle.specs.Meaning.{D, whole}
 
 -- the largest step from a node, and the end of the range

@@ -1,6 +1,6 @@
 -- From the tangent at a node to the tangent after the step: the sine and the cosine there, against each other, by sums of
 -- monomials. Assumes nothing.
-use Rattle.std.proofs.Common.{◌≡◌, ℕ, ◌+◌, ◌-◌, ◌*◌, ◌<◌, ◌≤◌, ap, mul-le-mul_right, mul-le-mul, mul-le-mul_left, arith}
+use Rattle.std.proofs.Common.{◌≡◌, ℕ, ◌+◌, ◌*◌, ◌<◌, ◌≤◌, ap, mul-le-mul_right, mul-le-mul, mul-le-mul_left, arith}
 use native.Mathlib.Nat.{le_of_mul-le-mul_left}
 
 -- products put in one form, each from one fact

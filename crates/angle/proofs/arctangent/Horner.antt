@@ -1,5 +1,5 @@
 -- The two sums of coefficients, by Horner's steps in f32, against the polynomials themselves. Assumes nothing.
-use Rattle.std.proofs.Common.{◌≡◌, ℕ, ◌+◌, ◌-◌, ◌*◌, ◌^◌, ◌<◌, ◌≤◌, List, [], ◌∷◌, refl, ap, subst, add-zero, mul-le-mul_right, mul-le-mul, mul-le-mul_left, mul-zero, le_of_mul-le-mul_right, arith, lit≤}
+use Rattle.std.proofs.Common.{◌≡◌, ℕ, ◌+◌, ◌*◌, ◌^◌, ◌<◌, ◌≤◌, List, [], ◌∷◌, refl, ap, subst, add-zero, mul-le-mul_right, mul-le-mul, mul-le-mul_left, mul-zero, le_of_mul-le-mul_right, arith, lit≤}
 use lib.Ieee.{Float, binary32, of_bits, mul}
 use Rattle.angle.specs.Meaning.{D}
 use Rattle.angle.specs.Arctangent.{horner}

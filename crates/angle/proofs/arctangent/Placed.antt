@@ -1,5 +1,5 @@
 -- From the rule's angle in an eighth of a turn to the meanings at the whole angle. Assumes nothing.
-use Rattle.std.proofs.Common.{◌≡◌, ℕ, ◌+◌, ◌-◌, ◌*◌, ◌^◌, ◌<◌, ◌≤◌, Bool, true, false, ℤ, pos, ◌+ℤ◌, ◌-ℤ◌, ◌*ℤ◌, nat_abs, ◌<ℤ◌, sym, refl, ap, ◌∙◌, subst, mul-le-mul_left, mul-pos, zero-mul, arith, lit<, lt→ltb}
+use Rattle.std.proofs.Common.{◌≡◌, ℕ, ◌+◌, ◌*◌, ◌^◌, ◌<◌, ◌≤◌, Bool, true, false, ℤ, pos, ◌+ℤ◌, ◌-ℤ◌, ◌*ℤ◌, nat_abs, ◌<ℤ◌, sym, refl, ap, ◌∙◌, subst, mul-le-mul_left, mul-pos, zero-mul, arith, lit<, lt→ltb}
 use lib.Signed.{lt_z_yes}
 use lib.Ieee.{unlike}
 use Rattle.angle.specs.Meaning.{H, whole, signed, mod4, placed, sine, cosine, Along}

@@ -1,5 +1,5 @@
 -- The ratio between 7/16 and 39/16, as an f32. Assumes nothing.
-use Rattle.std.proofs.Common.{◌≡◌, ℕ, ◌+◌, ◌-◌, ◌*◌, ◌^◌, ◌<◌, ◌≤◌, false, T, negsuc, refl, ap, subst, mul-le-mul_right, lt_of_mul-lt-mul_right, mul-le-mul_left, mul-lt-mul_of_pos_right, le_of_mul-le-mul_right, arith, lit<, lit≤}
+use Rattle.std.proofs.Common.{◌≡◌, ℕ, ◌+◌, ◌*◌, ◌^◌, ◌<◌, ◌≤◌, false, T, negsuc, refl, ap, subst, mul-le-mul_right, lt_of_mul-lt-mul_right, mul-le-mul_left, mul-lt-mul_of_pos_right, le_of_mul-le-mul_right, arith, lit<, lit≤}
 use lib.Ieee.{Float, fin, binary32, round, le}
 use lib.Ieee.Exact.{HasValue}
 use lib.Ieee.Order.{round_mono}

@@ -1,6 +1,6 @@
 -- The tangent from a known angle on, as an f32: within ten times 2 ^ -25 of the exact one. Assumes nothing.
-use Rattle.std.proofs.Common.{◌≡◌, ℕ, ◌+◌, ◌-◌, ◌*◌, ◌^◌, ◌<◌, ◌≤◌, Bool, true, false, cond, sym, refl, ap, ◌∙◌, mul-le-mul_right, mul-le-mul_left, mul-pos, le_of_mul-le-mul_right, arith, lit≤}
-use lib.Ieee.{Float, binary32, up, round, div, neg}
+use Rattle.std.proofs.Common.{◌≡◌, ℕ, ◌+◌, ◌*◌, ◌^◌, ◌<◌, ◌≤◌, Bool, true, false, cond, sym, refl, ap, ◌∙◌, mul-le-mul_right, mul-le-mul_left, mul-pos, le_of_mul-le-mul_right, arith, lit≤}
+use lib.Ieee.{Float, binary32, round, div, neg}
 use lib.Ieee.Exact.{HasValue}
 use Rattle.floats.proofs.Negated.{neg_round}
 use Rattle.angle.specs.Meaning.{D}

@@ -1,5 +1,5 @@
 -- The polynomial in x itself, and its difference between two points by the slope at one. Assumes nothing.
-use Rattle.std.proofs.Common.{◌≡◌, ℕ, ◌+◌, ◌-◌, ◌*◌, ◌/◌, ◌<◌, ◌≤◌, List, [], ◌∷◌, sym, refl, ap, ◌∙◌, mul-le-mul_right, mul-le-mul, mul-le-mul_left, mul-zero, le_of_mul-le-mul_right, arith, lit≤}
+use Rattle.std.proofs.Common.{◌≡◌, ℕ, ◌+◌, ◌*◌, ◌/◌, ◌<◌, ◌≤◌, List, [], ◌∷◌, sym, refl, ap, ◌∙◌, mul-le-mul_right, mul-le-mul, mul-le-mul_left, mul-zero, le_of_mul-le-mul_right, arith, lit≤}
 use Rattle.angle.specs.Meaning.{D}
 use Rattle.angle.proofs.arctangent.Poly.{eval, dev2}
 use Rattle.angle.proofs.arctangent.Budget.{Most, m, L2}

@@ -1,12 +1,10 @@
 -- The coefficients of the two polynomials in E-ths, and their errors summed, over any numbers. Assumes nothing.
-use Rattle.std.proofs.Common.{◌≡◌, ℕ, ◌+◌, ◌-◌, ◌*◌, ◌^◌, ◌<◌, ◌≤◌, refl, mul-le-mul_right, mul-le-mul, mul-le-mul_left, mul-pos, le_of_mul-le-mul_right, arith, lit<, lit≤}
+use Rattle.std.proofs.Common.{◌≡◌, ℕ, ◌+◌, ◌*◌, ◌^◌, ◌<◌, ◌≤◌, refl, mul-le-mul_right, mul-le-mul, mul-le-mul_left, mul-pos, le_of_mul-le-mul_right, arith, lit<, lit≤}
 use lib.Ieee.{of_bits}
 use Rattle.angle.specs.Meaning.{D}
 use Rattle.angle.specs.Sine as Rule
 use Rattle.angle.specs.Sine.{s1, s2, s3, c1, c2, c3, c4}
-use Rattle.angle.proofs.Terms.{one}
 use Rattle.angle.proofs.sine.Doubles.{Near, E, tiny, E_pos, Val}
-use Rattle.angle.proofs.sine.Powers as P
 
 -- from D-ths to E-ths
 unfoldable pub lift : ℕ

@@ -1,6 +1,6 @@
 -- The two polynomials in f64 at a rest that is 5 of `tiny` from y at most, against the nine terms at y: by 661 and 150 in 10 ^ 9 at most.
 -- Assumes nothing.
-use Rattle.std.proofs.Common.{◌≡◌, ℕ, ◌+◌, ◌-◌, ◌*◌, ◌<◌, ◌≤◌, T, sym, ap, subst, le_trans, mul-le-mul_right, mul_comm, mul-le-mul, mul-le-mul_left, le_of_mul-le-mul_right, arith, lit≤}
+use Rattle.std.proofs.Common.{◌≡◌, ℕ, ◌+◌, ◌*◌, ◌<◌, ◌≤◌, T, sym, ap, subst, le_trans, mul-le-mul_right, mul_comm, mul-le-mul, mul-le-mul_left, le_of_mul-le-mul_right, arith, lit≤}
 use lib.Ieee.{Float, binary64, mul, add, sub, fits}
 use lib.Ieee.Fits.{mul-fits, add-fits, sub-fits}
 use Rattle.angle.specs.Meaning.{D, H, whole}

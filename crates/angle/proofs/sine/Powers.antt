@@ -1,5 +1,5 @@
 -- The terms of an angle that is half a right angle at most: how large each is, in 10 ^ 12ths, and what the nine sum up to. Assumes nothing.
-use Rattle.std.proofs.Common.{◌≡◌, ℕ, suc, ◌+◌, ◌-◌, ◌*◌, ◌<◌, ◌≤◌, refl, ap, ◌∙◌, mul-le-mul_right, mul-le-mul, mul-pos, pow-suc, mul-one, sub-add_cancel, le_of_mul-le-mul_right, arith, lit<, lit≤}
+use Rattle.std.proofs.Common.{◌≡◌, ℕ, suc, ◌+◌, ◌*◌, ◌<◌, ◌≤◌, refl, ap, ◌∙◌, mul-le-mul_right, mul-le-mul, mul-pos, pow-suc, mul-one, sub-add_cancel, le_of_mul-le-mul_right, arith, lit<, lit≤}
 use native.Mathlib.Nat.{pow-zero}
 use Rattle.angle.specs.Meaning.{D, H, whole, coef}
 use Rattle.angle.proofs.Terms.{one, sum, one-next, rest_under, sin_at, cos_at}

@@ -1,5 +1,5 @@
 -- An angle's size in D-ths; from a half on it is a whole number of 2 ^ -24ths. Assumes nothing.
-use Rattle.std.proofs.Common.{◌≡◌, ℕ, ◌+◌, ◌-◌, ◌*◌, ◌/◌, ◌^◌, ◌<◌, ◌≤◌, Bool, T, ◌⊎◌, ℤ, nat_abs, sym, refl, ap, ◌∙◌, subst, inl, inr, mul-le-mul_right, div-lt_iff_lt-mul, lt_of_mul-lt-mul_right, mul-lt-mul_of_pos_right, mul-div_cancel, arith, lit<}
+use Rattle.std.proofs.Common.{◌≡◌, ℕ, ◌+◌, ◌*◌, ◌/◌, ◌^◌, ◌<◌, ◌≤◌, Bool, T, ◌⊎◌, ℤ, nat_abs, sym, refl, ap, ◌∙◌, subst, inl, inr, mul-le-mul_right, div-lt_iff_lt-mul, lt_of_mul-lt-mul_right, mul-lt-mul_of_pos_right, mul-div_cancel, arith, lit<}
 use native.Mathlib.Nat.{div-le_of_le-mul, lt-div-mul-add}
 use lib.Ieee.{fin, binary32, up, down, fits}
 use lib.Ieee.Fits.{down_pos}

@@ -4,7 +4,7 @@ use Rattle.std.proofs.Common.{◌≡◌, ℕ, zero, suc, ◌+◌, ◌-◌, ◌*�
 use native.Mathlib.Nat.{add-mul-mod_self_right}
 use lib.Count.{count_trailing_zeros}
 use lib.Ieee.{Float, nan, inf, fin, binary32, hid, top, up, down, minus, size, odd, units, round, neg, add, sub, sum, mul, rem, lt, eq, le, fits, to_bits, of_bits}
-use lib.Ieee.Fits.{down_pos, round_is, round_fits, and_l, eq→eqb}
+use lib.Ieee.Fits.{down_pos, round_is, round-fits, and_l, eq→eqb}
 use lib.Ieee.Bits.{of_bits-to_bits}
 use lib.Ieee.Exact.{HasValue}
 use lib.Ieee.Nearest.{div_same}
@@ -67,8 +67,8 @@ unique (fin t n d) s m e f g v =
 
 own : (s : Bool) (m : ℕ) (e : ℤ) → T (fits binary32 (fin s m e)) → m * up e < 2 ^ 63 * down e → round binary32 s (m * up e * 1) (down e * 1) ≡ fin s m e
 unfolding mul
-own true m e f h = unique (round binary32 true (m * up e * 1) (down e * 1)) true m e f (round_fits binary32 true (m * up e * 1) (down e * 1)) (times_pow binary32 0 true m e f h (lit≤ tt))
-own false m e f h = unique (round binary32 false (m * up e * 1) (down e * 1)) false m e f (round_fits binary32 false (m * up e * 1) (down e * 1)) (times_pow binary32 0 false m e f h (lit≤ tt))
+own true m e f h = unique (round binary32 true (m * up e * 1) (down e * 1)) true m e f (round-fits binary32 true (m * up e * 1) (down e * 1)) (times_pow binary32 0 true m e f h (lit≤ tt))
+own false m e f h = unique (round binary32 false (m * up e * 1) (down e * 1)) false m e f (round-fits binary32 false (m * up e * 1) (down e * 1)) (times_pow binary32 0 false m e f h (lit≤ tt))
 
 small : (s : Bool) (m : ℕ) (e : ℤ) → T (fits binary32 (fin s m e)) → m * up e * 1 < 45 * 8 * down e → rem binary32 (fin s m e) turn ≡ fin s m e
 unfolding rem

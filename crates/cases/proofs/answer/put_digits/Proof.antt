@@ -29,7 +29,7 @@ glyph-requires : tie.Need-glyph-requires invariant_loop decreases_loop
 glyph-requires c κs = lt_of_lt_of_le (mod-lt c.before.loop.rest (omega (arith, c.before.before.before.requires.0.0))) c.before.before.before.requires.0.1
 
 add-out : tie.Need-overflow-add-out invariant_loop decreases_loop
-add-out c = omega (arith, c.before.before.before.before.requires.1, c.before.before.before.before.well-formed.0.0)
+add-out c = omega (arith, c.before.before.before.before.requires.1, c.before.before.before.before.well_formed.0.0)
 
 slice-write-out : tie.Need-slice-write-out invariant_loop decreases_loop
 slice-write-out c = omega (arith, c.before.before.before.before.requires.1)
@@ -48,7 +48,7 @@ loop-again c =
     (omega arith, simp length-set (omega arith), digit_before l.out a.at a.base l.i l.rest glyph.result c.before.loop-test.true glyph.ensures ∙ l.invariant.2)
 
 add-result : tie.Need-overflow-add-result invariant_loop decreases_loop
-add-result c = omega (arith, c.before.before.before.requires.1, c.before.before.before.well-formed.0.0)
+add-result c = omega (arith, c.before.before.before.requires.1, c.before.before.before.well_formed.0.0)
 
 same_length : tie.Need-same-length invariant_loop decreases_loop
 same_length c = omega arith

@@ -17,7 +17,7 @@ slice-write-out : tie.Need-slice-write-out
 slice-write-out c = omega (arith, c.before.before.before.before.before.before.put-digits.ensures.to, c.before.before.before.before.before.before.put-digits.auto.0, length-spelled 256 6 0x20686173683d, c.before.before.put-digits2.ensures.to, c.before.before.put-digits2.auto.0, length-spelled 16 16 c.before.before.before.before.before.before.before.before.before.args.hash, c.before.before.before.before.before.before.before.before.before.requires)
 
 add-result : tie.Need-overflow-add-result
-add-result c = omega (arith, c.before.before.before.before.before.before.put-digits.ensures.to, c.before.before.before.before.before.before.put-digits.auto.0, length-spelled 256 6 0x20686173683d, c.before.before.put-digits2.ensures.to, c.before.before.put-digits2.auto.0, length-spelled 16 16 c.before.before.before.before.before.before.before.before.before.args.hash, c.before.before.before.before.before.before.before.before.before.requires, c.before.before.before.before.before.before.before.before.before.well-formed.0.0)
+add-result c = omega (arith, c.before.before.before.before.before.before.put-digits.ensures.to, c.before.before.before.before.before.before.put-digits.auto.0, length-spelled 256 6 0x20686173683d, c.before.before.put-digits2.ensures.to, c.before.before.put-digits2.auto.0, length-spelled 16 16 c.before.before.before.before.before.before.before.before.before.args.hash, c.before.before.before.before.before.before.before.before.before.requires, c.before.before.before.before.before.before.before.before.before.well_formed.0.0)
 
 same_length : tie.Need-same-length
 same_length c = simp length-set (omega (arith, c.before.before.before.before.before.before.put-digits.auto.0, c.before.before.put-digits2.auto.0))

@@ -8,10 +8,10 @@ use Rattle.cases.proofs.case.lay_both.Statement.{statement}
 use Rattle.cases.proofs.case.lay_both.Tie as tie
 
 lent-requires : tie.Need-lent-requires
-lent-requires c κs = (omega arith, omega (arith, c.before.before.before.before.well-formed))
+lent-requires c κs = (omega arith, omega (arith, c.before.before.before.before.well_formed))
 
 lent-requires-2 : tie.Need-lent-requires-2
-lent-requires-2 c κs = (omega arith, omega (arith, c.before.before.before.before.before.before.well-formed))
+lent-requires-2 c κs = (omega arith, omega (arith, c.before.before.before.before.before.before.well_formed))
 
 returns : tie.Need-returns
 returns c =

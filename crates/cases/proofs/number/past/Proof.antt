@@ -42,10 +42,10 @@ add-i c =
     let a = c.before.before.before.before.before.before.before.args in
     let l = c.before.before.before.before.loop in
     let s = c.before.stands in
-    omega (arith, c.before.before.before.before.before.before.before.well-formed, within a.name.now a.line.now l.i l.k (sym s.ensures ∙ not-false s.result c.if1.false))
+    omega (arith, c.before.before.before.before.before.before.before.well_formed, within a.name.now a.line.now l.i l.k (sym s.ensures ∙ not-false s.result c.if1.false))
 
 add-k : tie.Need-overflow-add-k invariant_loop decreases_loop
-add-k c = omega (arith, c.before.before.before.before.before.before.before.well-formed)
+add-k c = omega (arith, c.before.before.before.before.before.before.before.well_formed)
 
 loop-less : tie.Need-loop-smaller invariant_loop decreases_loop
 loop-less c = search rules

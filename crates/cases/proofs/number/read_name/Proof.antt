@@ -37,7 +37,7 @@ add-letters : tie.Need-overflow-add-letters invariant_loop decreases_loop
 add-letters c = omega (arith, c.wide.ensures.1, (is_letter c.before.before.before.before.loop.letters c.before.before.before.before.before.before.args.line.now c.before.before.before.before.loop.i (sym c.before.before.before.letter.ensures ∙ c.before.before.if1.true)).3)
 
 add-i : tie.Need-overflow-add-i invariant_loop decreases_loop
-add-i c = omega (arith, c.before.before.before.before.before.before.well-formed, (is_letter c.before.before.before.before.loop.letters c.before.before.before.before.before.before.args.line.now c.before.before.before.before.loop.i (sym c.before.before.before.letter.ensures ∙ c.before.before.if1.true)).0)
+add-i c = omega (arith, c.before.before.before.before.before.before.well_formed, (is_letter c.before.before.before.before.loop.letters c.before.before.before.before.before.before.args.line.now c.before.before.before.before.loop.i (sym c.before.before.before.letter.ensures ∙ c.before.before.if1.true)).0)
 
 loop-less : tie.Need-loop-smaller invariant_loop decreases_loop
 loop-less c = omega (arith, (is_letter c.before.before.before.before.loop.letters c.before.before.before.before.before.before.args.line.now c.before.before.before.before.loop.i (sym c.before.before.before.letter.ensures ∙ c.before.before.if1.true)).0)
@@ -49,7 +49,7 @@ ends-requires : tie.Need-ends-requires invariant_loop decreases_loop
 ends-requires c κs = search rules
 
 add-t11 : tie.Need-overflow-add-t11 invariant_loop decreases_loop
-add-t11 c = omega (arith, c.before.before.before.before.before.before.well-formed, end-within c.before.before.before.before.before.before.args.line.now c.before.before.before.before.loop.i (sym c.before.ends.ensures ∙ c.if2.true))
+add-t11 c = omega (arith, c.before.before.before.before.before.before.well_formed, end-within c.before.before.before.before.before.before.args.line.now c.before.before.before.before.loop.i (sym c.before.ends.ensures ∙ c.if2.true))
 
 returns : tie.Need-returns invariant_loop decreases_loop
 unfolding name_of after letters-of

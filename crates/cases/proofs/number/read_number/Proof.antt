@@ -40,7 +40,7 @@ add-value : tie.Need-overflow-add-value invariant_loop decreases_loop
 add-value c = omega (arith, c.wide.ensures.1, c.before.before.before.before.before.before.ranges.most, c.before.before.before.before.loop.invariant.0)
 
 add-i : tie.Need-overflow-add-i invariant_loop decreases_loop
-add-i c = omega (arith, c.before.before.before.before.before.before.well-formed, digit_within c.before.before.before.before.before.before.args.most c.before.before.before.before.loop.value c.before.before.before.before.before.before.args.line.now c.before.before.before.before.loop.i (sym c.before.before.before.digit.ensures ∙ c.before.before.if1.true))
+add-i c = omega (arith, c.before.before.before.before.before.before.well_formed, digit_within c.before.before.before.before.before.before.args.most c.before.before.before.before.loop.value c.before.before.before.before.before.before.args.line.now c.before.before.before.before.loop.i (sym c.before.before.before.digit.ensures ∙ c.before.before.if1.true))
 
 loop-less : tie.Need-loop-smaller invariant_loop decreases_loop
 loop-less c = omega (arith, digit_within c.before.before.before.before.before.before.args.most c.before.before.before.before.loop.value c.before.before.before.before.before.before.args.line.now c.before.before.before.before.loop.i (sym c.before.before.before.digit.ensures ∙ c.before.before.if1.true))
@@ -62,7 +62,7 @@ add-t17 : tie.Need-overflow-add-t17 invariant_loop decreases_loop
 add-t17 c =
     let a = c.before.before.before.before.before.before.args in
     let l = c.before.before.before.before.loop in
-    omega (arith, c.before.before.before.before.before.before.well-formed, (number-end a.most a.at l.value l.i a.line.now l.invariant.1 l.invariant.2 l.invariant.3 c.before.ends.result c.before.ends.ensures c.if2.true).0)
+    omega (arith, c.before.before.before.before.before.before.well_formed, (number-end a.most a.at l.value l.i a.line.now l.invariant.1 l.invariant.2 l.invariant.3 c.before.ends.result c.before.ends.ensures c.if2.true).0)
 
 returns : tie.Need-returns invariant_loop decreases_loop
 unfolding number_of after digits

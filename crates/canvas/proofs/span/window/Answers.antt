@@ -1,0 +1,13 @@
+-- The clip's span, lowered and held to the side.
+use Rattle.std.proofs.Common.{arith, rules}
+use Rattle.canvas.proofs.span.Lifts.{lift_lt}
+use Rattle.canvas.proofs.span.Spans.{is_window}
+use Rattle.canvas.proofs.span.window.Goals as goal
+
+pub overflow_add-u : goal.overflow_add-u
+overflow_add-u c =
+    record { fits = omega (arith, lift_lt c.args.c _ c.ranges.c c.lift-u.ensures, c.ranges.m.fits) }
+
+pub returns : goal.returns
+returns c =
+    is_window c.args.c _ _ _ _ c.ranges.c c.lift-u.ensures c.side_between.ensures

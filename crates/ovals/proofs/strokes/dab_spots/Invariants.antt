@@ -1,0 +1,15 @@
+-- What is left of the points leads to the same end.
+use Rattle.std.proofs.Common.{◌-◌, arith}
+use mir.Facts.{Fits-widen}
+use Rattle.words.specs.Ink.{inked}
+use Rattle.canvas.specs.Walk.{work}
+use Rattle.pixels.proofs.bytes.Pixels.{sized-length}
+use Rattle.canvas.proofs.plot.Dabs.{dabbing_length}
+use Rattle.ovals.proofs.strokes.Stroking.{Spotting, spotting_start, spotting_room, spotting_turn, spotting_end}
+use Rattle.ovals.proofs.strokes.dab_spots.Given as goal
+
+abbrev pub invariant-loop-j : goal.invariant-loop-j
+invariant-loop-j l = Spotting l.ps l.qs l.canvas l.xs l.ys (inked l.ink) l.m l.j (work l.b l.t) (work l.initial.b l.initial.t)
+
+abbrev pub decreases-loop-j : goal.decreases-loop-j
+decreases-loop-j l = l.m - l.j

@@ -1,0 +1,17 @@
+-- What is left of the row leads to the same end as all of it.
+use native.Mathlib.Omega.{arith}
+use native.Mathlib.Nat.{mul-one}
+use mathlib.Core.Path.{sym, ◌∙◌}
+use Prim.Native.Nat.{◌+◌, ◌-◌, ◌*◌}
+use Rattle.words.specs.Ink.{inked}
+use Rattle.pixels.specs.Bytes.{pitch}
+use Rattle.pixels.specs.Rows.{run, flat, mark, marks}
+use Rattle.pixels.proofs.bytes.Pixels.{bounded}
+use Rattle.pixels.proofs.rows.Rows.{Rest, rest-start, rest-length, rest-sized, rest-turn, rest_end, row_place, row_touch}
+use Rattle.pixels.proofs.rows.row1.Given as goal
+
+abbrev pub invariant-loop-x : goal.invariant-loop-x
+invariant-loop-x l = Rest l.canvas (marks (flat (inked l.ink)) (run l.x (l.x1 - l.x)) l.y) l.b (marks (flat (inked l.ink)) (run l.initial.x (l.x1 - l.initial.x)) l.y) l.initial.b
+
+abbrev pub decreases-loop-x : goal.decreases-loop-x
+decreases-loop-x l = l.x1 - l.x

@@ -1,0 +1,30 @@
+-- `words::invert_ink` meets its contract, number by number.
+use Rattle.words.specs.Format.{format_of}
+use Rattle.words.specs.Invert.{invert_ink}
+use Rattle.words.proofs.Formats.{is_none}
+use Rattle.words.proofs.invert_ink.Goals as goal
+
+pub returns-in-0 : goal.returns-in-0
+unfolding format_of invert_ink
+returns-in-0 c = rw c.in-0.is
+
+pub returns-in-1 : goal.returns-in-1
+unfolding format_of invert_ink
+returns-in-1 c = rw c.in-1.is
+
+pub returns-in-2 : goal.returns-in-2
+unfolding format_of invert_ink
+returns-in-2 c = rw c.in-2.is
+
+pub returns-in-3 : goal.returns-in-3
+unfolding format_of invert_ink
+returns-in-3 c = rw c.in-3.is
+
+pub returns-in-4 : goal.returns-in-4
+unfolding format_of invert_ink
+returns-in-4 c = rw c.in-4.is
+
+pub returns-in_default : goal.returns-in_default
+unfolding invert_ink
+returns-in_default c =
+    rw (is_none _ c.in_default.in_default-own.rest.0.0.0.0.1 c.in_default.in_default-own.rest.0.0.0.1 c.in_default.in_default-own.rest.0.0.1 c.in_default.in_default-own.rest.0.1 c.in_default.in_default-own.rest.1)
