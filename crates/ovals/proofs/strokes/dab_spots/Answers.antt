@@ -12,21 +12,21 @@ pub loop-j-init : goal.loop-j-init
 loop-j-init c = let a = c.args in spotting_start a.ps.now a.qs.now
 
 pub offset_bounds-ps-j : goal.offset_bounds-ps-j
-offset_bounds-ps-j c = record { fits = omega (arith, c.loop-j-test.true, c.requires.0.1.1.1) }
+offset_bounds-ps-j c = record { fits = omega (arith, c.loop-j-test.true, c.requires.sized.1.1.1) }
 
 pub bounds-ps-j : goal.bounds-ps-j
-bounds-ps-j c = let p = c.requires in omega (arith, c.loop-j-test.true, p.0.1.1.1, p.1.0)
+bounds-ps-j c = let p = c.requires in omega (arith, c.loop-j-test.true, p.sized.1.1.1, p.ps_len.0)
 
 pub overflow_cast-ps : goal.overflow_cast-ps
 overflow_cast-ps c = Fits-widen tt (c.shared_slice_known-in-loop-j-1.given c.loop-j.j)
 
 pub offset_bounds-qs-j : goal.offset_bounds-qs-j
-offset_bounds-qs-j c = record { fits = omega (arith, c.loop-j-test.true, c.requires.0.1.1.1) }
+offset_bounds-qs-j c = record { fits = omega (arith, c.loop-j-test.true, c.requires.sized.1.1.1) }
 
 pub bounds-qs-j : goal.bounds-qs-j
 bounds-qs-j c =
     let p = c.requires in
-    omega (arith, c.loop-j-test.true, p.0.1.1.1, p.1.1.0)
+    omega (arith, c.loop-j-test.true, p.sized.1.1.1, p.ps_len.1.0)
 
 pub overflow_cast-qs : goal.overflow_cast-qs
 overflow_cast-qs c = Fits-widen tt (c.shared_slice_known-in-loop-j-2-1.given c.loop-j.j)
@@ -34,13 +34,13 @@ overflow_cast-qs c = Fits-widen tt (c.shared_slice_known-in-loop-j-2-1.given c.l
 pub dab-t-requires : goal.dab-t-requires
 dab-t-requires c =
     let i = c.loop-j.invariant in (
-      sized-length (dabbing_length i.rest) c.requires.0.0,
-      (c.requires.0.1.0, (c.requires.0.1.1.0, spotting_room c.args.ps.now c.args.qs.now c.requires.1.1.1 c.loop-j-test.true i)),
+      sized-length (dabbing_length i.rest) c.requires.sized.0,
+      (c.requires.sized.1.0, (c.requires.sized.1.1.0, spotting_room c.args.ps.now c.args.qs.now c.requires.ps_len.1.1 c.loop-j-test.true i)),
     )
 
 pub overflow_add-j : goal.overflow_add-j
 overflow_add-j c =
-    record { fits = omega (arith, c.loop-j-test.true, c.requires.0.1.1.1) }
+    record { fits = omega (arith, c.loop-j-test.true, c.requires.sized.1.1.1) }
 
 pub loop-j-smaller : goal.loop-j-smaller
 loop-j-smaller c = omega (arith, c.loop-j-test.true)

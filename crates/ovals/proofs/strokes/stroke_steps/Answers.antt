@@ -35,16 +35,18 @@ dab_spots-t-requires c =
     let m = c.up_to_16-m in
     let few : m.result ≤ 16 = omega (arith, m.ensures) in
     let p = c.args in
-    let k = c.spots_from.ensures in (
-      (sized-length (dabbing_length l.invariant.0.rest) c.requires.0, (c.requires.1.0, (c.requires.1.1.0, few))),
-      (
-        all p.o p.start p.sweep p.steps l.i (λ (t : Spot). lifted t.x) k.0,
-        (
-          all p.o p.start p.sweep p.steps l.i (λ (t : Spot). lifted t.y) k.1,
-          stroking_room p.o p.start p.sweep p.steps m.result c.requires.1.1.1.0 c.requires.1.1.1.1 few l.invariant.0,
-        ),
-      ),
-    )
+    let k = c.spots_from.ensures in
+    record {
+      sized = (sized-length (dabbing_length l.invariant.0.rest) c.requires.0, (c.requires.1.0, (c.requires.1.1.0, few)));
+      ps_len =
+          (
+            all p.o p.start p.sweep p.steps l.i (λ (t : Spot). lifted t.x) k.0,
+            (
+              all p.o p.start p.sweep p.steps l.i (λ (t : Spot). lifted t.y) k.1,
+              stroking_room p.o p.start p.sweep p.steps m.result c.requires.1.1.1.0 c.requires.1.1.1.1 few l.invariant.0,
+            ),
+          );
+    }
 
 pub overflow_add-i : goal.overflow_add-i
 overflow_add-i c =
