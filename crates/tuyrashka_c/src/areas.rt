@@ -58,5 +58,7 @@ pub extern "C" fn tuyrashka_draw(
     ensures { (result, (drawn.new, bytes.new))
         ≡ gives (call (canvas_of canvas.now) (draw dx dy w h (source_of source.now) image.now sx sy (clip_of clip.now)) bytes.old) }
 {
-    tuyrashka::tuyrashka_draw(canvas, bytes, dx, dy, w, h, source, image, sx, sy, clip, drawn)
+    tuyrashka::tuyrashka_draw(
+        canvas, bytes, dx, dy, w, h, source, image, sx, sy, clip, drawn,
+    )
 }

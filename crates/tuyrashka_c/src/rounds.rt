@@ -21,7 +21,19 @@ pub extern "C" fn tuyrashka_draw_arc(
     ensures { (result, (drawn.new, bytes.new))
         ≡ gives (call (canvas_of canvas.now) (draw_arc x y w h start_angle arc_angle (color_of argb) (clip_of clip.now)) bytes.old) }
 {
-    tuyrashka::tuyrashka_draw_arc(canvas, bytes, x, y, w, h, start_angle, arc_angle, argb, clip, drawn)
+    tuyrashka::tuyrashka_draw_arc(
+        canvas,
+        bytes,
+        x,
+        y,
+        w,
+        h,
+        start_angle,
+        arc_angle,
+        argb,
+        clip,
+        drawn,
+    )
 }
 
 #[unsafe(no_mangle)]
@@ -41,7 +53,19 @@ pub extern "C" fn tuyrashka_fill_arc(
     ensures { (result, (drawn.new, bytes.new))
         ≡ gives (call (canvas_of canvas.now) (fill_arc x y w h start_angle arc_angle (color_of argb) (clip_of clip.now)) bytes.old) }
 {
-    tuyrashka::tuyrashka_fill_arc(canvas, bytes, x, y, w, h, start_angle, arc_angle, argb, clip, drawn)
+    tuyrashka::tuyrashka_fill_arc(
+        canvas,
+        bytes,
+        x,
+        y,
+        w,
+        h,
+        start_angle,
+        arc_angle,
+        argb,
+        clip,
+        drawn,
+    )
 }
 
 #[unsafe(no_mangle)]

@@ -1,0 +1,6 @@
+-- The record of what was found.
+use borrow.Author.Rules.{rules}
+use Rattle.replies.proofs.answers.counted_answer.Goals as goal
+
+pub returns : goal.returns
+returns c = rw (c.status.ensures, c.count.ensures)

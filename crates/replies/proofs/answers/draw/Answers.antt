@@ -1,0 +1,14 @@
+-- The colour and the clip are those of the line.
+use Rattle.replies.proofs.Answered.{drew-is}
+use borrow.Author.Rules.{rules}
+use Rattle.replies.proofs.answers.draw.Goals as goal
+
+pub returns : goal.returns
+returns c =
+    let call = c.call-d in
+    let clip-at = c.clip_at-at in
+    let color = c.color-c in
+    let clip = c.clip-k in
+    let a = c.args in
+    drew-is a.op a.n a.v a.image.now a.bytes.now call.result clip-at.ensures.0 color.ensures clip.ensures call.ensures
+    c.hash-hash.ensures c.counted_answer.ensures

@@ -1,0 +1,21 @@
+-- By the answer's two cases.
+use Rattle.res.specs.Search.{reads}
+use Rattle.replies.specs.Answers.{icon_of, start_of}
+use borrow.Author.Rules.{rules}
+use Rattle.replies.proofs.answers.icon.Goals as goal
+
+pub returns-in-Refused : goal.returns-in-Refused
+unfolding icon_of reads start_of
+returns-in-Refused c =
+    let decode_res = c.decode_res-f in
+    let hash = c.hash-hash in
+    let icon_pixels = c.icon_pixels in
+    rw (← decode_res.ensures, c.in-Refused.is, c.number.ensures, hash.ensures, icon_pixels.ensures)
+
+pub returns-in-Here : goal.returns-in-Here
+unfolding icon_of reads
+returns-in-Here c =
+    let decode_res = c.decode_res-f in
+    let hash = c.hash-hash in
+    let icon_pixels = c.icon_pixels in
+    rw (← decode_res.ensures, c.in-Here.is, hash.ensures, icon_pixels.ensures, c.start_of.ensures)

@@ -1,0 +1,12 @@
+-- The call of the canvas, its answer read in records.
+use Rattle.ovals.specs.Call.{fill_arc}
+use Rattle.tuyrashka.proofs.Answers.{exports}
+use borrow.Author.Rules.{rules}
+use Rattle.tuyrashka.proofs.rounds.tuyrashka_fill_arc.Goals as goal
+
+pub returns : goal.returns
+returns c =
+    let a = c.args in
+    let f = c.ranges in
+    exports a.argb a.bytes.now c.fill_arc-d.result (λ x y s t k z. fill_arc x y a.w a.h s t k z) f.x f.y f.start_angle f.arc_angle
+    c.canvas_of-v.ensures c.clip_of-c.ensures c.color_of-k.ensures c.give_drawn.ensures c.fill_arc-d.ensures
