@@ -6,7 +6,10 @@ pub is_kept-requires : goal.is_kept-requires
 is_kept-requires c = tt
 
 pub returns-then-is_kept : goal.returns-then-is_kept
-returns-then-is_kept c = is-kept c.args.x1 c.args.y1 c.args.x2 c.args.y2 c.args.width c.args.height c.ranges.x1 c.ranges.y1 c.ranges.x2 c.ranges.y2 c.is_kept.result c.is_kept.ensures c.if-is_kept.true
+returns-then-is_kept c =
+    let a = c.args in
+    let z = c.ranges in
+    is-kept a.x1 a.y1 a.x2 a.y2 a.width a.height z.x1 z.y1 z.x2 z.y2 c.is_kept.result c.is_kept.ensures c.if-is_kept.true
 
 pub parameters-requires : goal.parameters-requires
 parameters-requires c = tt
@@ -24,7 +27,19 @@ pub end_at-requires-in-Part-3 : goal.end_at-requires-in-Part-3
 end_at-requires-in-Part-3 c = tt
 
 pub returns-in-Nothing : goal.returns-in-Nothing
-returns-in-Nothing c = left-nothing c.args.x1 c.args.y1 c.args.x2 c.args.y2 _ _ (is_cut c.args.x1 c.args.y1 c.args.x2 c.args.y2 c.args.width c.args.height c.ranges.x1 c.ranges.y1 c.ranges.x2 c.ranges.y2 c.is_kept.result c.parameters.result c.is_kept.ensures c.if-is_kept.false c.parameters.ensures) c.in-Nothing.is
+returns-in-Nothing c =
+    let a = c.args in
+    let z = c.ranges in
+    let left = is_cut a.x1 a.y1 a.x2 a.y2 a.width a.height z.x1 z.y1 z.x2 z.y2 c.is_kept.result c.parameters.result c.is_kept.ensures c.if-is_kept.false c.parameters.ensures in
+    left-nothing a.x1 a.y1 a.x2 a.y2 _ _ left c.in-Nothing.is
 
 pub returns-in-Part : goal.returns-in-Part
-returns-in-Part c = left-part c.args.x1 c.args.y1 c.args.x2 c.args.y2 _ _ _ _ _ _ _ _ (is_cut c.args.x1 c.args.y1 c.args.x2 c.args.y2 c.args.width c.args.height c.ranges.x1 c.ranges.y1 c.ranges.x2 c.ranges.y2 c.is_kept.result c.parameters.result c.is_kept.ensures c.if-is_kept.false c.parameters.ensures) c.in-Part.is (is-end c.args.x1 c.args.x2 _ _ c.ranges.x1 c.ranges.x2 c.end_at.ensures) (is-end c.args.y1 c.args.y2 _ _ c.ranges.y1 c.ranges.y2 c.end_at-in-Part.ensures) (is-end c.args.x1 c.args.x2 _ _ c.ranges.x1 c.ranges.x2 c.end_at-in-Part-2.ensures) (is-end c.args.y1 c.args.y2 _ _ c.ranges.y1 c.ranges.y2 c.end_at-in-Part-3.ensures)
+returns-in-Part c =
+    let a = c.args in
+    let z = c.ranges in
+    let left = is_cut a.x1 a.y1 a.x2 a.y2 a.width a.height z.x1 z.y1 z.x2 z.y2 c.is_kept.result c.parameters.result c.is_kept.ensures c.if-is_kept.false c.parameters.ensures in
+    left-part a.x1 a.y1 a.x2 a.y2 _ _ _ _ _ _ _ _ left c.in-Part.is
+    (is-end a.x1 a.x2 _ _ z.x1 z.x2 c.end_at.ensures)
+    (is-end a.y1 a.y2 _ _ z.y1 z.y2 c.end_at-in-Part.ensures)
+    (is-end a.x1 a.x2 _ _ z.x1 z.x2 c.end_at-in-Part-2.ensures)
+    (is-end a.y1 a.y2 _ _ z.y1 z.y2 c.end_at-in-Part-3.ensures)

@@ -9,7 +9,20 @@ pub is_inside-requires-then-is_inside : goal.is_inside-requires-then-is_inside
 is_inside-requires-then-is_inside c = tt
 
 pub returns-then-is_inside : goal.returns-then-is_inside
-returns-then-is_inside c = both_inside c.args.x1 c.args.y1 c.args.x2 c.args.y2 c.args.width c.args.height c.is_inside.result c.is_inside-then-is_inside.result (is-inside c.args.width c.args.height c.args.x1 c.args.y1 c.ranges.x1 c.ranges.y1 c.is_inside.result c.is_inside.ensures) c.if-is_inside.true (is-inside c.args.width c.args.height c.args.x2 c.args.y2 c.ranges.x2 c.ranges.y2 c.is_inside-then-is_inside.result c.is_inside-then-is_inside.ensures)
+returns-then-is_inside c =
+    let a = c.args in
+    let z = c.ranges in
+    let s = c.is_inside in
+    let t = c.is_inside-then-is_inside in
+    both_inside a.x1 a.y1 a.x2 a.y2 a.width a.height s.result t.result
+    (is-inside a.width a.height a.x1 a.y1 z.x1 z.y1 s.result s.ensures)
+    c.if-is_inside.true
+    (is-inside a.width a.height a.x2 a.y2 z.x2 z.y2 t.result t.ensures)
 
 pub returns : goal.returns
-returns c = first-outside c.args.x1 c.args.y1 c.args.x2 c.args.y2 c.args.width c.args.height c.is_inside.result (is-inside c.args.width c.args.height c.args.x1 c.args.y1 c.ranges.x1 c.ranges.y1 c.is_inside.result c.is_inside.ensures) c.if-is_inside.false
+returns c =
+    let a = c.args in
+    let z = c.ranges in
+    let s = c.is_inside in
+    let first = is-inside a.width a.height a.x1 a.y1 z.x1 z.y1 s.result s.ensures in
+    first-outside a.x1 a.y1 a.x2 a.y2 a.width a.height s.result first c.if-is_inside.false

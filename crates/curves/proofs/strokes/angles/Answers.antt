@@ -18,12 +18,6 @@ nearest_to-by-requires c = tt
 pub loop-j-init : goal.loop-j-init
 loop-j-init c = filled_none c.requires.1
 
-pub overflow_add-i : goal.overflow_add-i
-overflow_add-i c = record { fits = omega (arith, c.loop-j-test.true, c.requires.0) }
-
-pub angle_at-requires : goal.angle_at-requires
-angle_at-requires c = omega (arith, c.loop-j-test.true, c.requires.0)
-
 pub overflow_cast-ts : goal.overflow_cast-ts
 overflow_cast-ts c = record { fits = omega (arith, c.loop-j-test.true) }
 
