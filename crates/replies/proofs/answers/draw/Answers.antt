@@ -10,5 +10,5 @@ returns c =
     let color = c.color-c in
     let clip = c.clip-k in
     let a = c.args in
-    drew-is a.op a.n a.v a.image.now a.bytes.now call.result clip-at.ensures.0 color.ensures clip.ensures call.ensures
+    drew-is a.op a.n a.v a.image.now a.bytes.now call.result clip-at.ensures.value color.ensures clip.ensures call.ensures
     c.hash-hash.ensures c.counted_answer.ensures

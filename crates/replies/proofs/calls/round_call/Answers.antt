@@ -57,12 +57,12 @@ returns-in-491545518964 c =
     let word2 = c.word-h in
     let word3 = c.word-s in
     let word4 = c.word-t in
-    let draw_round_rect = c.draw_round_rect in
+    let made = c.draw_round_rect in
     let a = c.args in
     named (λ o. round_by o a.n a.v a.c a.k a.image.now a.bytes.now) c.in-491545518964.is
     (rrect-is a.n a.v a.c a.k a.image.now a.bytes.now)
     (made₆ (λ x y w h s t. call a.v (draw_round_rect x y w h s t a.c a.k) a.bytes.now) (reaches int.result int.type_inv int.ensures)
-    (reaches int2.result int2.type_inv int2.ensures) word.ensures word2.ensures word3.ensures word4.ensures draw_round_rect.ensures)
+    (reaches int2.result int2.type_inv int2.ensures) word.ensures word2.ensures word3.ensures word4.ensures made.ensures)
 
 pub returns-in-112641731552116 : goal.returns-in-112641731552116
 returns-in-112641731552116 c =
@@ -72,12 +72,12 @@ returns-in-112641731552116 c =
     let word2 = c.word-h in
     let word3 = c.word-s in
     let word4 = c.word-t in
-    let fill_round_rect = c.fill_round_rect in
+    let made = c.fill_round_rect in
     let a = c.args in
     named (λ o. round_by o a.n a.v a.c a.k a.image.now a.bytes.now) c.in-112641731552116.is
     (frrect-is a.n a.v a.c a.k a.image.now a.bytes.now)
     (made₆ (λ x y w h s t. call a.v (fill_round_rect x y w h s t a.c a.k) a.bytes.now) (reaches int.result int.type_inv int.ensures)
-    (reaches int2.result int2.type_inv int2.ensures) word.ensures word2.ensures word3.ensures word4.ensures fill_round_rect.ensures)
+    (reaches int2.result int2.type_inv int2.ensures) word.ensures word2.ensures word3.ensures word4.ensures made.ensures)
 
 pub returns-in_default : goal.returns-in_default
 unfolding round_by
