@@ -47,8 +47,12 @@ fn serve<R: Read, W: Write>(
 // Says on standard error what could not be done.
 fn tell(rt: &HostRuntime, turn: Turn) -> std::io::Result<()> {
     match turn {
-        Turn::Unread => rt.stderr().write_all(b"replay: standard input can't be read\n"),
-        Turn::Unwritten => rt.stderr().write_all(b"replay: standard output can't be written\n"),
+        Turn::Unread => rt
+            .stderr()
+            .write_all(b"replay: standard input can't be read\n"),
+        Turn::Unwritten => rt
+            .stderr()
+            .write_all(b"replay: standard output can't be written\n"),
         _ => Ok(()),
     }
 }
