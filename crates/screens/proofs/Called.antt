@@ -7,6 +7,7 @@ use lib.IntN.{ℤ}
 use lib.ListN.{length}
 use denote.Laws.{Is}
 use denote.Ref.{Bor}
+use denote.MutBor.{MutBor}
 use denote.Struct.Declared.{row}
 use denote.Struct.Laws.{vals}
 use Rattle.words.specs.declared.Color.{Color}
@@ -17,7 +18,7 @@ use Rattle.pixels.specs.declared.Canvas.{Canvas}
 use Rattle.canvas.specs.declared.Clip.{Clip}
 use Rattle.canvas.specs.declared.Drawn.{Drawn}
 use Rattle.canvas.specs.Call.{Call, put_pixel, draw_line, draw_rect, fill_rect, invert_rect, Outcome, leaves, call}
-use Rattle.canvas.specs.Call.{draw as drawCall}
+use Rattle.canvas.specs.Call.{draw as draw_call}
 use Rattle.ovals.specs.Call.{draw_arc, fill_arc, draw_round_rect, fill_round_rect}
 use Rattle.canvas.proofs.Determined.{leaves-same}
 use Rattle.canvas.proofs.Reverse.{Colored}
@@ -48,36 +49,36 @@ use Rattle.screens.proofs.Sides.{of_line, of_outline, of_fill, of_arc, of_pie, o
 use Rattle.screens.proofs.Runs.{Ran, answer, call_answers, Copy, copy, Maker}
 
 pub data Made : Canvas → Call → List ℕ → Drawn → List ℕ → Type 0 where
-  by_put_pixel : {κs : _} {v : Canvas} {m : Bor (List ℕ)} {x y : ℤ} {c : Color} {k : Clip} {d : Drawn} {s : _}
+  by_put_pixel : {κs : _} {v : Canvas} {m : MutBor (List ℕ)} {x y : ℤ} {c : Color} {k : Clip} {d : Drawn} {s : _}
       → Ran put_pixel_kinds.ps put_pixel_kinds.r put-pixel.Post κs (v, (m, (x, (y, (c, (k, tt)))))) d s
       → Made v (put_pixel x y c k) m.now d s.1.0.now
-  by_draw_line : {κs : _} {v : Canvas} {m : Bor (List ℕ)} {x1 y1 x2 y2 : ℤ} {c : Color} {k : Clip} {d : Drawn} {s : _}
+  by_draw_line : {κs : _} {v : Canvas} {m : MutBor (List ℕ)} {x1 y1 x2 y2 : ℤ} {c : Color} {k : Clip} {d : Drawn} {s : _}
       → Ran draw_line_kinds.ps draw_line_kinds.r draw-line.Post κs (v, (m, (x1, (y1, (x2, (y2, (c, (k, tt)))))))) d s
       → Made v (draw_line x1 y1 x2 y2 c k) m.now d s.1.0.now
-  by_draw_rect : {κs : _} {v : Canvas} {m : Bor (List ℕ)} {x y : ℤ} {w h : ℕ} {c : Color} {k : Clip} {d : Drawn} {s : _}
+  by_draw_rect : {κs : _} {v : Canvas} {m : MutBor (List ℕ)} {x y : ℤ} {w h : ℕ} {c : Color} {k : Clip} {d : Drawn} {s : _}
       → Ran draw_rect_kinds.ps draw_rect_kinds.r draw-rect.Post κs (v, (m, (x, (y, (w, (h, (c, (k, tt)))))))) d s
       → Made v (draw_rect x y w h c k) m.now d s.1.0.now
-  by_fill_rect : {κs : _} {v : Canvas} {m : Bor (List ℕ)} {x y : ℤ} {w h : ℕ} {c : Color} {k : Clip} {d : Drawn} {s : _}
+  by_fill_rect : {κs : _} {v : Canvas} {m : MutBor (List ℕ)} {x y : ℤ} {w h : ℕ} {c : Color} {k : Clip} {d : Drawn} {s : _}
       → Ran fill_rect_kinds.ps fill_rect_kinds.r fill-rect.Post κs (v, (m, (x, (y, (w, (h, (c, (k, tt)))))))) d s
       → Made v (fill_rect x y w h c k) m.now d s.1.0.now
-  by_draw_arc : {κs : _} {v : Canvas} {m : Bor (List ℕ)} {x y : ℤ} {w h : ℕ} {start arc : ℤ} {c : Color} {k : Clip} {d : Drawn} {s : _}
+  by_draw_arc : {κs : _} {v : Canvas} {m : MutBor (List ℕ)} {x y : ℤ} {w h : ℕ} {start arc : ℤ} {c : Color} {k : Clip} {d : Drawn} {s : _}
       → Ran draw_arc_kinds.ps draw_arc_kinds.r draw-arc.Post κs (v, (m, (x, (y, (w, (h, (start, (arc, (c, (k, tt)))))))))) d s
       → Made v (draw_arc x y w h start arc c k) m.now d s.1.0.now
-  by_fill_arc : {κs : _} {v : Canvas} {m : Bor (List ℕ)} {x y : ℤ} {w h : ℕ} {start arc : ℤ} {c : Color} {k : Clip} {d : Drawn} {s : _}
+  by_fill_arc : {κs : _} {v : Canvas} {m : MutBor (List ℕ)} {x y : ℤ} {w h : ℕ} {start arc : ℤ} {c : Color} {k : Clip} {d : Drawn} {s : _}
       → Ran fill_arc_kinds.ps fill_arc_kinds.r fill-arc.Post κs (v, (m, (x, (y, (w, (h, (start, (arc, (c, (k, tt)))))))))) d s
       → Made v (fill_arc x y w h start arc c k) m.now d s.1.0.now
-  by_draw_round_rect : {κs : _} {v : Canvas} {m : Bor (List ℕ)} {x y : ℤ} {w h aw ah : ℕ} {c : Color} {k : Clip} {d : Drawn} {s : _}
+  by_draw_round_rect : {κs : _} {v : Canvas} {m : MutBor (List ℕ)} {x y : ℤ} {w h aw ah : ℕ} {c : Color} {k : Clip} {d : Drawn} {s : _}
       → Ran draw_round_rect_kinds.ps draw_round_rect_kinds.r draw_round_rect.Post κs (v, (m, (x, (y, (w, (h, (aw, (ah, (c, (k, tt)))))))))) d s
       → Made v (draw_round_rect x y w h aw ah c k) m.now d s.1.0.now
-  by_fill_round_rect : {κs : _} {v : Canvas} {m : Bor (List ℕ)} {x y : ℤ} {w h aw ah : ℕ} {c : Color} {k : Clip} {d : Drawn} {s : _}
+  by_fill_round_rect : {κs : _} {v : Canvas} {m : MutBor (List ℕ)} {x y : ℤ} {w h aw ah : ℕ} {c : Color} {k : Clip} {d : Drawn} {s : _}
       → Ran fill_round_rect_kinds.ps fill_round_rect_kinds.r fill_round_rect.Post κs (v, (m, (x, (y, (w, (h, (aw, (ah, (c, (k, tt)))))))))) d s
       → Made v (fill_round_rect x y w h aw ah c k) m.now d s.1.0.now
-  by_invert_rect : {κs : _} {v : Canvas} {m : Bor (List ℕ)} {x y : ℤ} {w h : ℕ} {k : Clip} {d : Drawn} {s : _}
+  by_invert_rect : {κs : _} {v : Canvas} {m : MutBor (List ℕ)} {x y : ℤ} {w h : ℕ} {k : Clip} {d : Drawn} {s : _}
       → Ran invert_rect_kinds.ps invert_rect_kinds.r invert-rect.Post κs (v, (m, (x, (y, (w, (h, (k, tt))))))) d s
       → Made v (invert_rect x y w h k) m.now d s.1.0.now
-  by_draw : {κs : _} {v : Canvas} {m : Bor (List ℕ)} {dx dy : ℤ} {w h : ℕ} {source : Canvas} {image : Bor (List ℕ)} {sx sy : ℤ} {k : Clip} {d : Drawn} {s : _}
+  by_draw : {κs : _} {v : Canvas} {m : MutBor (List ℕ)} {dx dy : ℤ} {w h : ℕ} {source : Canvas} {image : Bor (List ℕ)} {sx sy : ℤ} {k : Clip} {d : Drawn} {s : _}
       → Ran draw_kinds.ps draw_kinds.r draw.Post κs (v, (m, (dx, (dy, (w, (h, (source, (image, (sx, (sy, (k, tt))))))))))) d s
-      → Made v (drawCall dx dy w h source image.now sx sy k) m.now d s.1.0.now
+      → Made v (draw_call dx dy w h source image.now sx sy k) m.now d s.1.0.now
 
 pub made_is : {v : Canvas} {k : Call} {b b' : List ℕ} {d : Drawn} → Made v k b d b' → leaves d b' ≡ call v k b
 made_is (by_put_pixel q) = q.post
@@ -123,7 +124,7 @@ sided (by_invert_rect q) = of_fill _ _ _ _
 sided (by_draw q) = tt
 
 pub data Copied : Canvas → Copy → List ℕ → List ℕ → Type 0 where
-  by_copy_area : {κs : _} {v : Canvas} {m : Bor (List ℕ)} {dx dy sx sy : ℤ} {w h : ℕ} {k : Clip} {d : Drawn} {s : _}
+  by_copy_area : {κs : _} {v : Canvas} {m : MutBor (List ℕ)} {dx dy sx sy : ℤ} {w h : ℕ} {k : Clip} {d : Drawn} {s : _}
       → Ran copy_area_kinds.ps copy_area_kinds.r copy-area.Post κs (v, (m, (dx, (dy, (sx, (sy, (w, (h, (k, tt))))))))) d s
       → Copied v (record { dx = dx; dy = dy; sx = sx; sy = sy; w = w; h = h; clip = k }) m.now s.1.0.now
 

@@ -19,7 +19,7 @@ use Rattle.canvas.specs.declared.Drawn.{Drawn}
 use Rattle.canvas.specs.declared.faults.Verdict.TheVariants.{Sound}
 use Rattle.canvas.specs.Faults.{format_fault, rule_fault, size_fault, length_fault, or_else, first, verdict, as_source}
 use Rattle.canvas.specs.Call.{Outcome, status_of}
-use Rattle.canvas.specs.Call.{draw as drawCall}
+use Rattle.canvas.specs.Call.{draw as draw_call}
 use Rattle.canvas.proofs.Accepted.{accepted}
 use Rattle.canvas.proofs.Tails.{even_verdict}
 use Rattle.res.specs.declared.Icon.{Icon}
@@ -56,7 +56,7 @@ no_fault f i x o e =
 pub icon_drawn : (κs κs' : _) (file part : Bor (List ℕ)) (i : Icon) (s s' : _)
     → Bytes file.now → decode_res.Post κs (file, tt) (Here i) s → icon_pixels.Post κs' (file, tt) part s'
     → {x : Bool} {v : Canvas} {dx dy sx sy : ℤ} {w h : ℕ} {k : Clip} {d : Drawn} {b b' : List ℕ} → verdict v (length b) ≡ Sound
-    → Made v (drawCall dx dy w h (as_canvas x i) part.now sx sy k) b d b' → status_of d ≡ 0
+    → Made v (draw_call dx dy w h (as_canvas x i) part.now sx sy k) b d b' → status_of d ≡ 0
 icon_drawn κs κs' file part i s s' o p q {x} {v} {dx} {dy} {sx} {sy} {w} {h} {k} {d} {b} e m =
     let n : verdict (as_canvas x i) (length part.now) ≡ Sound = ap (λ (c : List ℕ). verdict (as_canvas x i) (length c)) q ∙ no_fault file.now i x o (sym p) in
-    ap (λ (t : Outcome). t.status) (made_is m) ∙ accepted v (drawCall dx dy w h (as_canvas x i) part.now sx sy k) b e (ap as_source n)
+    ap (λ (t : Outcome). t.status) (made_is m) ∙ accepted v (draw_call dx dy w h (as_canvas x i) part.now sx sy k) b e (ap as_source n)

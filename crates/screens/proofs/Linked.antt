@@ -5,12 +5,13 @@ use Prim.Native.Nat.{ℕ}
 use lib.IntN.{ℤ}
 use lib.ListN.{length}
 use denote.Ref.{Bor}
+use denote.MutBor.{MutBor}
 use Rattle.words.specs.Format.{argb}
 use Rattle.words.proofs.Reading.{read_channels}
 use Rattle.pixels.specs.declared.Canvas.{Canvas}
 use Rattle.canvas.specs.declared.Drawn.{Drawn}
 use Rattle.canvas.specs.Call.{Call, put_pixel, draw_line, draw_rect, fill_rect, invert_rect, Outcome, status_of, count_of, call}
-use Rattle.canvas.specs.Call.{draw as drawCall}
+use Rattle.canvas.specs.Call.{draw as draw_call}
 use Rattle.ovals.specs.Call.{draw_arc, fill_arc, draw_round_rect, fill_round_rect}
 use Rattle.canvas.proofs.Reverse.{Colored}
 use Rattle.canvas.proofs.plot.Sides.{Sided}
@@ -42,36 +43,36 @@ use Rattle.screens.proofs.Runs.{Ran, answer, call_answers, Copy, copy, Maker}
 
 -- An answer is the number returned and the record given back.
 pub data Made : Canvas → Call → List ℕ → ℕ × List ℕ → List ℕ → Type 0 where
-  by_put_pixel : {κs : _} {g m z n : Bor (List ℕ)} {x y : ℤ} {c : ℕ} {r : ℕ} {s : _}
+  by_put_pixel : {κs : _} {g z : Bor (List ℕ)} {m n : MutBor (List ℕ)} {x y : ℤ} {c : ℕ} {r : ℕ} {s : _}
       → Ran put_pixel_kinds.ps put_pixel_kinds.r put-pixel.Post κs (g, (m, (x, (y, (c, (z, (n, tt))))))) r s
       → Made (canvas_of g.now) (put_pixel x y (color_of c) (clip_of z.now)) m.now (r, s.1.1.1.1.1.1.0.now) s.1.0.now
-  by_draw_line : {κs : _} {g m z n : Bor (List ℕ)} {x1 y1 x2 y2 : ℤ} {c : ℕ} {r : ℕ} {s : _}
+  by_draw_line : {κs : _} {g z : Bor (List ℕ)} {m n : MutBor (List ℕ)} {x1 y1 x2 y2 : ℤ} {c : ℕ} {r : ℕ} {s : _}
       → Ran draw_line_kinds.ps draw_line_kinds.r draw-line.Post κs (g, (m, (x1, (y1, (x2, (y2, (c, (z, (n, tt))))))))) r s
       → Made (canvas_of g.now) (draw_line x1 y1 x2 y2 (color_of c) (clip_of z.now)) m.now (r, s.1.1.1.1.1.1.1.1.0.now) s.1.0.now
-  by_draw_rect : {κs : _} {g m z n : Bor (List ℕ)} {x y : ℤ} {w h : ℕ} {c : ℕ} {r : ℕ} {s : _}
+  by_draw_rect : {κs : _} {g z : Bor (List ℕ)} {m n : MutBor (List ℕ)} {x y : ℤ} {w h : ℕ} {c : ℕ} {r : ℕ} {s : _}
       → Ran draw_rect_kinds.ps draw_rect_kinds.r draw-rect.Post κs (g, (m, (x, (y, (w, (h, (c, (z, (n, tt))))))))) r s
       → Made (canvas_of g.now) (draw_rect x y w h (color_of c) (clip_of z.now)) m.now (r, s.1.1.1.1.1.1.1.1.0.now) s.1.0.now
-  by_fill_rect : {κs : _} {g m z n : Bor (List ℕ)} {x y : ℤ} {w h : ℕ} {c : ℕ} {r : ℕ} {s : _}
+  by_fill_rect : {κs : _} {g z : Bor (List ℕ)} {m n : MutBor (List ℕ)} {x y : ℤ} {w h : ℕ} {c : ℕ} {r : ℕ} {s : _}
       → Ran fill_rect_kinds.ps fill_rect_kinds.r fill-rect.Post κs (g, (m, (x, (y, (w, (h, (c, (z, (n, tt))))))))) r s
       → Made (canvas_of g.now) (fill_rect x y w h (color_of c) (clip_of z.now)) m.now (r, s.1.1.1.1.1.1.1.1.0.now) s.1.0.now
-  by_draw_arc : {κs : _} {g m z n : Bor (List ℕ)} {x y : ℤ} {w h : ℕ} {start arc : ℤ} {c : ℕ} {r : ℕ} {s : _}
+  by_draw_arc : {κs : _} {g z : Bor (List ℕ)} {m n : MutBor (List ℕ)} {x y : ℤ} {w h : ℕ} {start arc : ℤ} {c : ℕ} {r : ℕ} {s : _}
       → Ran draw_arc_kinds.ps draw_arc_kinds.r draw-arc.Post κs (g, (m, (x, (y, (w, (h, (start, (arc, (c, (z, (n, tt))))))))))) r s
       → Made (canvas_of g.now) (draw_arc x y w h start arc (color_of c) (clip_of z.now)) m.now (r, s.1.1.1.1.1.1.1.1.1.1.0.now) s.1.0.now
-  by_fill_arc : {κs : _} {g m z n : Bor (List ℕ)} {x y : ℤ} {w h : ℕ} {start arc : ℤ} {c : ℕ} {r : ℕ} {s : _}
+  by_fill_arc : {κs : _} {g z : Bor (List ℕ)} {m n : MutBor (List ℕ)} {x y : ℤ} {w h : ℕ} {start arc : ℤ} {c : ℕ} {r : ℕ} {s : _}
       → Ran fill_arc_kinds.ps fill_arc_kinds.r fill-arc.Post κs (g, (m, (x, (y, (w, (h, (start, (arc, (c, (z, (n, tt))))))))))) r s
       → Made (canvas_of g.now) (fill_arc x y w h start arc (color_of c) (clip_of z.now)) m.now (r, s.1.1.1.1.1.1.1.1.1.1.0.now) s.1.0.now
-  by_draw_round_rect : {κs : _} {g m z n : Bor (List ℕ)} {x y : ℤ} {w h aw ah : ℕ} {c : ℕ} {r : ℕ} {s : _}
+  by_draw_round_rect : {κs : _} {g z : Bor (List ℕ)} {m n : MutBor (List ℕ)} {x y : ℤ} {w h aw ah : ℕ} {c : ℕ} {r : ℕ} {s : _}
       → Ran draw_round_rect_kinds.ps draw_round_rect_kinds.r draw_round_rect.Post κs (g, (m, (x, (y, (w, (h, (aw, (ah, (c, (z, (n, tt))))))))))) r s
       → Made (canvas_of g.now) (draw_round_rect x y w h aw ah (color_of c) (clip_of z.now)) m.now (r, s.1.1.1.1.1.1.1.1.1.1.0.now) s.1.0.now
-  by_fill_round_rect : {κs : _} {g m z n : Bor (List ℕ)} {x y : ℤ} {w h aw ah : ℕ} {c : ℕ} {r : ℕ} {s : _}
+  by_fill_round_rect : {κs : _} {g z : Bor (List ℕ)} {m n : MutBor (List ℕ)} {x y : ℤ} {w h aw ah : ℕ} {c : ℕ} {r : ℕ} {s : _}
       → Ran fill_round_rect_kinds.ps fill_round_rect_kinds.r fill_round_rect.Post κs (g, (m, (x, (y, (w, (h, (aw, (ah, (c, (z, (n, tt))))))))))) r s
       → Made (canvas_of g.now) (fill_round_rect x y w h aw ah (color_of c) (clip_of z.now)) m.now (r, s.1.1.1.1.1.1.1.1.1.1.0.now) s.1.0.now
-  by_invert_rect : {κs : _} {g m z n : Bor (List ℕ)} {x y : ℤ} {w h : ℕ} {r : ℕ} {s : _}
+  by_invert_rect : {κs : _} {g z : Bor (List ℕ)} {m n : MutBor (List ℕ)} {x y : ℤ} {w h : ℕ} {r : ℕ} {s : _}
       → Ran invert_rect_kinds.ps invert_rect_kinds.r invert-rect.Post κs (g, (m, (x, (y, (w, (h, (z, (n, tt)))))))) r s
       → Made (canvas_of g.now) (invert_rect x y w h (clip_of z.now)) m.now (r, s.1.1.1.1.1.1.1.0.now) s.1.0.now
-  by_draw : {κs : _} {g m i p z n : Bor (List ℕ)} {dx dy : ℤ} {w h : ℕ} {sx sy : ℤ} {r : ℕ} {s : _}
+  by_draw : {κs : _} {g i p z : Bor (List ℕ)} {m n : MutBor (List ℕ)} {dx dy : ℤ} {w h : ℕ} {sx sy : ℤ} {r : ℕ} {s : _}
       → Ran draw_kinds.ps draw_kinds.r draw.Post κs (g, (m, (dx, (dy, (w, (h, (i, (p, (sx, (sy, (z, (n, tt)))))))))))) r s
-      → Made (canvas_of g.now) (drawCall dx dy w h (source_of i.now) p.now sx sy (clip_of z.now)) m.now (r, s.1.1.1.1.1.1.1.1.1.1.1.0.now) s.1.0.now
+      → Made (canvas_of g.now) (draw_call dx dy w h (source_of i.now) p.now sx sy (clip_of z.now)) m.now (r, s.1.1.1.1.1.1.1.1.1.1.1.0.now) s.1.0.now
 
 made_is : {v : Canvas} {k : Call} {b b' : List ℕ} {a : ℕ × List ℕ} → Made v k b a b' → ◌≡◌ {A = ℕ × (List ℕ × List ℕ)} (a.0, (a.1, b')) (gives (call v k b))
 made_is (by_put_pixel q) = q.post
@@ -123,7 +124,7 @@ sided (by_invert_rect q) = of_fill _ _ _ _
 sided (by_draw q) = tt
 
 pub data Copied : Canvas → Copy → List ℕ → List ℕ → Type 0 where
-  by_copy_area : {κs : _} {g m z n : Bor (List ℕ)} {dx dy sx sy : ℤ} {w h : ℕ} {r : ℕ} {s : _}
+  by_copy_area : {κs : _} {g z : Bor (List ℕ)} {m n : MutBor (List ℕ)} {dx dy sx sy : ℤ} {w h : ℕ} {r : ℕ} {s : _}
       → Ran copy_area_kinds.ps copy_area_kinds.r copy-area.Post κs (g, (m, (dx, (dy, (sx, (sy, (w, (h, (z, (n, tt)))))))))) r s
       → Copied (canvas_of g.now) (record { dx = dx; dy = dy; sx = sx; sy = sy; w = w; h = h; clip = clip_of z.now }) m.now s.1.0.now
 
