@@ -1,6 +1,5 @@
 -- Two bytes, the low one first.
 use native.Mathlib.Omega.{arith}
-use borrow.Author.Rules.{rules}
 use Rattle.fields.specs.Fields.{u16_at}
 use Rattle.fields.proofs.u16_at.Goals as goal
 

@@ -1,6 +1,5 @@
 -- Two halves, the low one first.
 use native.Mathlib.Omega.{arith}
-use borrow.Author.Rules.{rules}
 use Rattle.fields.specs.Fields.{u32_at}
 use Rattle.fields.proofs.u32_at.Goals as goal
 

@@ -1,5 +1,4 @@
 -- A byte, made wide.
-use borrow.Author.Rules.{rules}
 use Rattle.fields.proofs.u8_at.Goals as goal
 
 pub returns : goal.returns

@@ -1,6 +1,6 @@
 -- Halves go up, in any format: twice the size is exact, and that number, cut, and one more, halved, is the nearest
 -- whole number. Assumes nothing.
-use Rattle.std.proofs.Common.{◌≡◌, ℕ, suc, ◌+◌, ◌-◌, ◌*◌, ◌/◌, ◌^◌, ◌<◌, ◌≤◌, min, true, false, not, ◌&&◌, T, eqb, ℤ, pos, sym, refl, ap, ◌∙◌, subst, mul-le-mul_right, mul_comm, div-lt_iff_lt-mul, mul-pos, le-div_iff_mul-le, mul-one, arith, lit<, eqb→eq, ltb→lt, nltb→le, pow_pos, pow_mono}
+use Rattle.std.proofs.Common.{◌≡◌, ℕ, suc, ◌+◌, ◌*◌, ◌/◌, ◌^◌, ◌<◌, ◌≤◌, min, true, false, not, ◌&&◌, T, eqb, ℤ, pos, sym, refl, ap, ◌∙◌, subst, mul-le-mul_right, mul_comm, div-lt_iff_lt-mul, mul-pos, le-div_iff_mul-le, mul-one, arith, lit<, eqb→eq, ltb→lt, nltb→le, pow_pos, pow_mono}
 use native.Mathlib.Nat.{div-div-eq-div-mul, add-div_right}
 use lib.Ieee.{Float, nan, inf, fin, Format, emax, up, down, mul, neg, lt, eq, le, fits, to_unsigned}
 use lib.Ieee.Fits.{down_pos, neg-fits, and_l, and_r}

@@ -1,6 +1,5 @@
 -- `words::color332` meets its contract, which says the same.
 use mathlib.Core.Path.{refl}
-use borrow.Author.Rules.{rules}
 use Rattle.words.specs.Word.{to_color}
 use Rattle.words.proofs.color332.Goals as goal
 

@@ -1,6 +1,5 @@
 -- `words::color565` meets its contract: the levels are bytes.
 use native.Mathlib.Omega.{arith}
-use borrow.Author.Rules.{rules}
 use Rattle.words.specs.Word.{to_color}
 use Rattle.words.proofs.Reading.{byte5, byte6}
 use Rattle.words.proofs.color565.Goals as goal

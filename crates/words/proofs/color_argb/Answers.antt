@@ -1,6 +1,5 @@
 -- `words::color_argb` meets its contract, which says the same.
 use mathlib.Core.Path.{refl}
-use borrow.Author.Rules.{rules}
 use Rattle.words.specs.Word.{to_color}
 use Rattle.words.proofs.color_argb.Goals as goal
 

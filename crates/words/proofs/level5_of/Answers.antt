@@ -5,7 +5,6 @@ use native.Mathlib.Omega.{arith}
 use Rattle.words.specs.Word.{level5}
 use Rattle.words.specs.Table.{run}
 use Rattle.words.proofs.Table.{run_at}
-use borrow.Author.Rules.{rules}
 use Rattle.words.proofs.level5_of.Goals as goal
 
 fast : ℕ → ℕ

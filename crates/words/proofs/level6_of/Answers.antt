@@ -1,7 +1,6 @@
 -- `level6_of` meets its contract: the two divisions agree at each level.
 use native.Mathlib.Omega.{arith}
 use Rattle.words.specs.Word.{level6}
-use borrow.Author.Rules.{rules}
 use Rattle.words.proofs.level6_of.Goals as goal
 
 pub returns : goal.returns

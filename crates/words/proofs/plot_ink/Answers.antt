@@ -1,6 +1,5 @@
 -- `words::plot_ink` meets its contract, by the two tests.
 use mathlib.Core.Path.{ap}
-use borrow.Author.Rules.{rules}
 use borrow.Author.Tests.{not-true, not-false, eq-eqb, ne_eqb}
 use Rattle.words.specs.Ink.{ink, plot_ink}
 use Rattle.words.proofs.plot_ink.Goals as goal

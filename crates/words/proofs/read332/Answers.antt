@@ -1,5 +1,4 @@
 -- `words::read332` meets its contract, which says the same.
-use borrow.Author.Rules.{rules}
 use Rattle.words.specs.Table.{through332}
 use Rattle.words.proofs.read332.Goals as goal
 

@@ -1,6 +1,5 @@
 -- `words::read565` meets its contract, which says the same.
 use mathlib.Core.Path.{refl}
-use borrow.Author.Rules.{rules}
 use Rattle.words.specs.Table.{through565}
 use Rattle.words.proofs.read565.Goals as goal
 

@@ -1,6 +1,5 @@
 -- `words::solid_ink` meets its contract, which says the same.
 use mathlib.Core.Path.{refl}
-use borrow.Author.Rules.{rules}
 use Rattle.words.proofs.solid_ink.Goals as goal
 
 pub returns : goal.returns

@@ -1,5 +1,4 @@
 -- `words::to_color` meets its contract, number by number.
-use borrow.Author.Rules.{rules}
 use Rattle.words.specs.Format.{format_of}
 use Rattle.words.specs.Word.{to_color}
 use Rattle.words.proofs.Formats.{is_none}

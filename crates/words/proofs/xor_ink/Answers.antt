@@ -2,7 +2,6 @@
 use mathlib.Core.Path.{◌≡◌, ap, ◌∙◌}
 use Prim.Native.Nat.{ℕ, ◌+◌, ◌<◌}
 use native.Mathlib.Omega.{arith}
-use borrow.Author.Rules.{rules}
 use Rattle.words.specs.declared.Color.{Color}
 use Rattle.words.specs.declared.Ink.{Ink}
 use Rattle.words.specs.Format.{Format, argb, abgr, format_of}

@@ -2,7 +2,7 @@
 use Rattle.std.proofs.Common.{ℕ, ◌<◌, sym, ◌∙◌, subst, lit≤}
 use lib.Ieee.{of_bits}
 use Rattle.std.proofs.num.Truncating.{above, below_one}
-use Rattle.floats.proofs.Range.{over, Inside, inside, yes, no}
+use Rattle.floats.proofs.Range.{over, inside, yes, no}
 use Rattle.floats.proofs.whole.as_u8.Goals as goal
 
 pub returns-then-x : goal.returns-then-x

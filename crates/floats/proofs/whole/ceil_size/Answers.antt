@@ -1,9 +1,9 @@
 -- `ceil_size` meets its contract: the whole part, and one more where the test says so. Assumes nothing.
-use Rattle.std.proofs.Common.{le_of_lt, lit≤, le→leb, rules}
+use Rattle.std.proofs.Common.{le_of_lt, lit≤, le→leb}
 use lib.Ieee.{of_bits, in_float}
 use Rattle.std.proofs.num.Truncating.{above}
 use Rattle.floats.proofs.Range.{yes, no, inside}
-use Rattle.floats.proofs.whole.Ceil.{Ceil, ceil, ceil_top, ceil_one, ceil_none}
+use Rattle.floats.proofs.whole.Ceil.{ceil, ceil_top, ceil_one, ceil_none}
 use Rattle.floats.proofs.whole.ceil_size.Goals as goal
 
 pub returns-then-x : goal.returns-then-x

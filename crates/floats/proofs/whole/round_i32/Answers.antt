@@ -1,5 +1,5 @@
 -- `round_i32` meets its contract: what was lifted is lowered. Assumes nothing.
-use Rattle.std.proofs.Common.{◌≡◌, ℕ, ℤ, pos, ◌-ℤ◌, sym, ap, ◌∙◌, subst, lt_of_lt_of_le, lit≤, w32, w64, SFits, to_z, of_z, rules}
+use Rattle.std.proofs.Common.{◌≡◌, ℕ, ℤ, pos, ◌-ℤ◌, sym, ap, ◌∙◌, subst, lt_of_lt_of_le, lit≤, w32, w64, SFits, to_z, of_z}
 use mir.ValLaws.{to_z-of_z}
 use Rattle.floats.specs.Whole.{round_as, lifted}
 use Rattle.floats.proofs.Rounds.{round_fits}

@@ -1,5 +1,5 @@
 -- `round_i32_f64` meets its contract: the rounded size with its sign is an i32. Assumes nothing.
-use Rattle.std.proofs.Common.{◌≡◌, ℕ, ◌<◌, ◌≤◌, min, pos, neg_ℤ, ap, ◌∙◌, arith, w32, rules}
+use Rattle.std.proofs.Common.{◌≡◌, ℕ, ◌<◌, ◌≤◌, min, pos, neg_ℤ, ap, ◌∙◌, arith, w32}
 use lib.Ieee.{of_bits}
 use mir.ValLaws.{to_z_pos}
 use Rattle.floats.proofs.Range.{yes, no}

@@ -1,5 +1,5 @@
 -- `round_lifted` meets its contract: the sum's bits round what is held, and the ends are what x is held to. Assumes nothing.
-use Rattle.std.proofs.Common.{◌%◌, not, ◌&&◌, T, sym, ap, ◌∙◌, subst, rules}
+use Rattle.std.proofs.Common.{◌%◌, not, ◌&&◌, T, sym, ap, ◌∙◌, subst}
 use lib.Ieee.{Float, binary64, of_bits, neg, add, mul, to_bits, fits, is_nan}
 use Rattle.floats.proofs.Range.{yes, no}
 use Rattle.floats.proofs.whole.Nudged.{nudge}

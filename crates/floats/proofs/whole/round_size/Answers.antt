@@ -1,9 +1,8 @@
 -- `round_size` meets its contract: twice the size is in the range of the cast. Assumes nothing.
-use Rattle.std.proofs.Common.{ℕ, ◌+◌, ◌*◌, ◌/◌, ◌<◌, ◌≤◌, T, sym, refl, ap, ◌∙◌, subst, le_refl, arith, lit≤}
-use lib.Ieee.{binary64, of_bits, neg, mul, fits}
-use Rattle.std.proofs.num.Truncating.{two_to}
+use Rattle.std.proofs.Common.{ℕ, ◌+◌, ◌*◌, ◌/◌, ◌<◌, ◌≤◌, sym, refl, ap, ◌∙◌, subst, le_refl, arith, lit≤}
+use lib.Ieee.{binary64, of_bits, neg}
 use Rattle.floats.proofs.Range.{yes, no}
-use Rattle.floats.proofs.whole.Halves.{Doubled, above_zero, below-zero, over-top, under_bottom, none_there}
+use Rattle.floats.proofs.whole.Halves.{above_zero, below-zero, over-top, under_bottom, none_there}
 use Rattle.floats.proofs.whole.round_size.Goals as goal
 
 half_fits : (n b : ℕ) → n < 2 * b → (n + 1) / 2 ≤ b

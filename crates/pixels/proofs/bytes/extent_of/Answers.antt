@@ -4,7 +4,6 @@ use Prim.Native.Nat.{◌*◌, ◌%◌}
 use native.Mathlib.Omega.{arith}
 use Rattle.pixels.specs.Bytes.{folded}
 use Rattle.pixels.proofs.bytes.Places.{row_bytes_le, words-le}
-use borrow.Author.Rules.{rules}
 use Rattle.pixels.proofs.bytes.extent_of.Goals as goal
 
 pub overflow_mul-side : goal.overflow_mul-side

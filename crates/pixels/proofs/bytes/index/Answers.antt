@@ -1,7 +1,6 @@
 -- A pixel's number is below the area.
 use native.Mathlib.Omega.{arith}
 use Rattle.pixels.proofs.bytes.Places.{row_index, index_le}
-use borrow.Author.Rules.{rules}
 use Rattle.pixels.proofs.bytes.index.Goals as goal
 
 pub overflow_mul-result : goal.overflow_mul-result

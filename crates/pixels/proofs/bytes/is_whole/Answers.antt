@@ -1,7 +1,6 @@
 -- The comparison, with the extent worked out.
 use mathlib.Core.Path.{ap}
 use lib.Dec.{eqb}
-use borrow.Author.Rules.{rules}
 use Rattle.pixels.proofs.bytes.is_whole.Goals as goal
 
 pub returns : goal.returns

@@ -3,7 +3,6 @@ use native.Mathlib.Omega.{arith}
 use mathlib.Core.Path.{ap₂}
 use Prim.Native.Nat.{ℕ, ◌*◌}
 use Rattle.pixels.proofs.bytes.Places.{scaled-le}
-use borrow.Author.Rules.{rules}
 use Rattle.pixels.proofs.bytes.offset.Goals as goal
 
 pub overflow_mul-result : goal.overflow_mul-result

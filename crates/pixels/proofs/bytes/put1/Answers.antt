@@ -1,7 +1,6 @@
 -- One digit goes into one cell.
 use Rattle.pixels.specs.Bytes.{put, store, cells}
 use mathlib.Core.Path.{refl}
-use borrow.Author.Rules.{rules}
 use Rattle.pixels.proofs.bytes.put1.Goals as goal
 
 pub returns : goal.returns

@@ -4,7 +4,6 @@ use Rattle.pixels.specs.Bytes.{put, store, cells}
 use mathlib.Core.Path.{refl}
 use native.Mathlib.Numerals.{add-one, add-two, add-three}
 use lib.ListN.{length-set}
-use borrow.Author.Rules.{rules}
 use Rattle.pixels.proofs.bytes.put4.Goals as goal
 
 pub bounds-b-o-2 : goal.bounds-b-o-2

@@ -2,7 +2,6 @@
 use mathlib.Core.Path.{◌∙◌, ap}
 use Rattle.words.specs.Ink.{inked}
 use Rattle.pixels.specs.Bytes.{store, cells}
-use borrow.Author.Rules.{rules}
 use Rattle.pixels.proofs.bytes.touch4.Goals as goal
 
 pub returns : goal.returns

@@ -2,7 +2,6 @@
 use mathlib.Core.Path.{refl, sym, ◌∙◌}
 use Rattle.words.specs.Ink.{inked}
 use Rattle.pixels.proofs.bytes.Places.{sized_four, scaled, unscaled, in_place, touch_is}
-use borrow.Author.Rules.{rules}
 use Rattle.pixels.proofs.bytes.touch_by.Goals as goal
 
 pub touch1-requires : goal.touch1-requires

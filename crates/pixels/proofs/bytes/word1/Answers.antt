@@ -1,6 +1,5 @@
 -- One byte is the word of one cell.
 use Rattle.pixels.proofs.bytes.Places.{load_1}
-use borrow.Author.Rules.{rules}
 use Rattle.pixels.proofs.bytes.word1.Goals as goal
 
 pub returns : goal.returns

@@ -1,7 +1,6 @@
 -- Two bytes are the word of two cells, the low one first.
 use native.Mathlib.Omega.{arith}
 use Rattle.pixels.proofs.bytes.Places.{load_2}
-use borrow.Author.Rules.{rules}
 use Rattle.pixels.proofs.bytes.word2.Goals as goal
 
 pub returns : goal.returns

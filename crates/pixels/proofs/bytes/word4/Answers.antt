@@ -1,7 +1,6 @@
 -- Four bytes are the word of four cells, the low one first.
 use native.Mathlib.Omega.{arith}
 use Rattle.pixels.proofs.bytes.Places.{load_4}
-use borrow.Author.Rules.{rules}
 use Rattle.pixels.proofs.bytes.word4.Goals as goal
 
 pub returns : goal.returns

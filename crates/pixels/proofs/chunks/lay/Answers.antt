@@ -1,6 +1,5 @@
 -- Each word size has its loop.
 use Rattle.pixels.proofs.bytes.Places.{one_byte, two_bytes, four_bytes}
-use borrow.Author.Rules.{rules}
 use Rattle.pixels.proofs.chunks.lay.Goals as goal
 
 pub lay1-requires : goal.lay1-requires

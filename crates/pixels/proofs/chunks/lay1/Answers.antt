@@ -2,11 +2,11 @@
 use native.Mathlib.Omega.{arith}
 use native.Mathlib.Nat.{mul-one}
 use mathlib.Core.Path.{refl, sym, ◌∙◌}
-use Prim.Native.Nat.{◌+◌, ◌-◌, ◌≤◌}
+use Prim.Native.Nat.{◌+◌}
 use lib.ListN.{length}
-use Rattle.pixels.specs.Rows.{run, mark, marks, laid}
+use Rattle.pixels.specs.Rows.{mark, laid}
 use Rattle.pixels.proofs.bytes.Pixels.{bounded}
-use Rattle.pixels.proofs.rows.Rows.{Rest, rest-length, rest-sized, rest-turn, rest_end}
+use Rattle.pixels.proofs.rows.Rows.{rest-length, rest-sized, rest-turn, rest_end}
 use Rattle.pixels.proofs.chunks.Chunks.{sub-start, lay_place, lay_one}
 use Rattle.pixels.proofs.chunks.lay1.Goals as goal
 

@@ -1,13 +1,8 @@
 -- What is left of the words leads to the same end as all of them.
-use native.Mathlib.Omega.{arith}
-use native.Mathlib.Nat.{mul-one}
-use mathlib.Core.Path.{refl, sym, ◌∙◌}
-use Prim.Native.Nat.{◌+◌, ◌-◌, ◌≤◌}
+use Prim.Native.Nat.{◌-◌, ◌≤◌}
 use lib.ListN.{length}
-use Rattle.pixels.specs.Rows.{run, mark, marks, laid}
-use Rattle.pixels.proofs.bytes.Pixels.{bounded}
-use Rattle.pixels.proofs.rows.Rows.{Rest, rest-length, rest-sized, rest-turn, rest_end}
-use Rattle.pixels.proofs.chunks.Chunks.{sub-start, lay_place, lay_one}
+use Rattle.pixels.specs.Rows.{run, marks, laid}
+use Rattle.pixels.proofs.rows.Rows.{Rest}
 use Rattle.pixels.proofs.chunks.lay1.Given as goal
 
 abbrev pub invariant-loop-k : goal.invariant-loop-k

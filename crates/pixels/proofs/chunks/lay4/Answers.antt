@@ -1,11 +1,11 @@
 -- What is left of the words leads to the same end as all of them.
 use native.Mathlib.Omega.{arith}
 use mathlib.Core.Path.{refl, ap}
-use Prim.Native.Nat.{ℕ, ◌+◌, ◌-◌, ◌*◌, ◌≤◌}
+use Prim.Native.Nat.{ℕ, ◌+◌, ◌*◌}
 use lib.ListN.{length}
-use Rattle.pixels.specs.Rows.{run, mark, marks, laid}
+use Rattle.pixels.specs.Rows.{mark, laid}
 use Rattle.pixels.proofs.bytes.Pixels.{bounded}
-use Rattle.pixels.proofs.rows.Rows.{Rest, rest-length, rest-sized, rest-turn, rest_end}
+use Rattle.pixels.proofs.rows.Rows.{rest-length, rest-sized, rest-turn, rest_end}
 use Rattle.pixels.proofs.chunks.Chunks.{sub-start, lay_place, lay_one}
 use Rattle.pixels.proofs.chunks.lay4.Goals as goal
 

@@ -1,6 +1,5 @@
 -- Each word size has its loop.
 use Rattle.pixels.proofs.bytes.Places.{one_byte, two_bytes, four_bytes}
-use borrow.Author.Rules.{rules}
 use Rattle.pixels.proofs.chunks.take.Goals as goal
 
 pub take1-requires : goal.take1-requires

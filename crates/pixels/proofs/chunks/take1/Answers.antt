@@ -2,9 +2,8 @@
 use native.Mathlib.Omega.{arith}
 use native.Mathlib.Nat.{mul-one}
 use mathlib.Core.Path.{sym, ◌∙◌}
-use Prim.Native.Nat.{◌-◌}
 use Rattle.pixels.proofs.bytes.Pixels.{bounded}
-use Rattle.pixels.proofs.chunks.Chunks.{Filled, filled_none, filled_more, filled_all, word-place}
+use Rattle.pixels.proofs.chunks.Chunks.{filled_none, filled_more, filled_all, word-place}
 use Rattle.pixels.proofs.chunks.take1.Goals as goal
 
 pub loop-i-init : goal.loop-i-init

@@ -1,9 +1,9 @@
 -- The words before i are taken.
 use native.Mathlib.Omega.{arith}
 use mathlib.Core.Path.{ap}
-use Prim.Native.Nat.{ℕ, ◌-◌, ◌*◌}
+use Prim.Native.Nat.{ℕ, ◌*◌}
 use Rattle.pixels.proofs.bytes.Pixels.{bounded}
-use Rattle.pixels.proofs.chunks.Chunks.{Filled, filled_none, filled_more, filled_all, word-place}
+use Rattle.pixels.proofs.chunks.Chunks.{filled_none, filled_more, filled_all, word-place}
 use Rattle.pixels.proofs.chunks.take2.Goals as goal
 
 pub loop-i-init : goal.loop-i-init

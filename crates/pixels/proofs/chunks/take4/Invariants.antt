@@ -1,9 +1,6 @@
 -- The words before i are taken.
-use native.Mathlib.Omega.{arith}
-use mathlib.Core.Path.{ap}
-use Prim.Native.Nat.{ℕ, ◌-◌, ◌*◌}
-use Rattle.pixels.proofs.bytes.Pixels.{bounded}
-use Rattle.pixels.proofs.chunks.Chunks.{Filled, filled_none, filled_more, filled_all, word-place}
+use Prim.Native.Nat.{◌-◌}
+use Rattle.pixels.proofs.chunks.Chunks.{Filled}
 use Rattle.pixels.proofs.chunks.take4.Given as goal
 
 abbrev pub invariant-loop-i : goal.invariant-loop-i

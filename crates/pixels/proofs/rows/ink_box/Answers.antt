@@ -2,8 +2,8 @@
 use native.Mathlib.Omega.{arith}
 use Prim.Native.Nat.{◌-◌}
 use Rattle.words.specs.Ink.{inked}
-use Rattle.pixels.specs.Rows.{run, flat, marks, field}
-use Rattle.pixels.proofs.rows.Rows.{Rest, rest-start, rest-length, rest-sized, rest-turn, rest_end}
+use Rattle.pixels.specs.Rows.{run, flat, marks}
+use Rattle.pixels.proofs.rows.Rows.{rest-start, rest-length, rest-sized, rest-turn, rest_end}
 use Rattle.pixels.proofs.rows.ink_box.Goals as goal
 
 pub loop-y-init : goal.loop-y-init

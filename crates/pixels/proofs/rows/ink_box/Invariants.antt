@@ -1,9 +1,8 @@
 -- What is left of the rows leads to the same end as all of them.
-use native.Mathlib.Omega.{arith}
 use Prim.Native.Nat.{◌-◌}
 use Rattle.words.specs.Ink.{inked}
-use Rattle.pixels.specs.Rows.{run, flat, marks, field}
-use Rattle.pixels.proofs.rows.Rows.{Rest, rest-start, rest-length, rest-sized, rest-turn, rest_end}
+use Rattle.pixels.specs.Rows.{run, flat, field}
+use Rattle.pixels.proofs.rows.Rows.{Rest}
 use Rattle.pixels.proofs.rows.ink_box.Given as goal
 
 abbrev pub invariant-loop-y : goal.invariant-loop-y

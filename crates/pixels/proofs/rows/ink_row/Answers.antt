@@ -1,6 +1,5 @@
 -- Each word size has its loop.
 use Rattle.pixels.proofs.bytes.Places.{one_byte, two_bytes, four_bytes}
-use borrow.Author.Rules.{rules}
 use Rattle.pixels.proofs.rows.ink_row.Goals as goal
 
 pub row1-requires : goal.row1-requires

@@ -2,12 +2,12 @@
 use native.Mathlib.Omega.{arith}
 use native.Mathlib.Nat.{mul-one}
 use mathlib.Core.Path.{sym, ◌∙◌}
-use Prim.Native.Nat.{◌+◌, ◌-◌, ◌*◌}
+use Prim.Native.Nat.{◌+◌, ◌*◌}
 use Rattle.words.specs.Ink.{inked}
 use Rattle.pixels.specs.Bytes.{pitch}
-use Rattle.pixels.specs.Rows.{run, flat, mark, marks}
+use Rattle.pixels.specs.Rows.{flat, mark}
 use Rattle.pixels.proofs.bytes.Pixels.{bounded}
-use Rattle.pixels.proofs.rows.Rows.{Rest, rest-start, rest-length, rest-sized, rest-turn, rest_end, row_place, row_touch}
+use Rattle.pixels.proofs.rows.Rows.{rest-start, rest-length, rest-sized, rest-turn, rest_end, row_place, row_touch}
 use Rattle.pixels.proofs.rows.row1.Goals as goal
 
 pub loop-x-init : goal.loop-x-init

@@ -1,11 +1,11 @@
 -- What is left of the row leads to the same end as all of it.
 use native.Mathlib.Omega.{arith}
 use mathlib.Core.Path.{ap}
-use Prim.Native.Nat.{ℕ, ◌-◌, ◌*◌}
+use Prim.Native.Nat.{ℕ, ◌*◌}
 use Rattle.words.specs.Ink.{inked}
-use Rattle.pixels.specs.Rows.{run, flat, mark, marks}
+use Rattle.pixels.specs.Rows.{flat, mark}
 use Rattle.pixels.proofs.bytes.Pixels.{bounded}
-use Rattle.pixels.proofs.rows.Rows.{Rest, rest-start, rest-length, rest-sized, rest-turn, rest_end, row_place, row_touch}
+use Rattle.pixels.proofs.rows.Rows.{rest-start, rest-length, rest-sized, rest-turn, rest_end, row_place, row_touch}
 use Rattle.pixels.proofs.rows.row2.Goals as goal
 
 pub loop-x-init : goal.loop-x-init

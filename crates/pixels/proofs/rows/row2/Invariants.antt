@@ -1,11 +1,8 @@
 -- What is left of the row leads to the same end as all of it.
-use native.Mathlib.Omega.{arith}
-use mathlib.Core.Path.{ap}
-use Prim.Native.Nat.{ℕ, ◌-◌, ◌*◌}
+use Prim.Native.Nat.{◌-◌}
 use Rattle.words.specs.Ink.{inked}
-use Rattle.pixels.specs.Rows.{run, flat, mark, marks}
-use Rattle.pixels.proofs.bytes.Pixels.{bounded}
-use Rattle.pixels.proofs.rows.Rows.{Rest, rest-start, rest-length, rest-sized, rest-turn, rest_end, row_place, row_touch}
+use Rattle.pixels.specs.Rows.{run, flat, marks}
+use Rattle.pixels.proofs.rows.Rows.{Rest}
 use Rattle.pixels.proofs.rows.row2.Given as goal
 
 abbrev pub invariant-loop-x : goal.invariant-loop-x
