@@ -1,5 +1,5 @@
 -- The walk's loop: what is left of its trail leads to the same end.
-use Rattle.std.proofs.Common.{◌≡◌, ℕ, zero, suc, ◌+◌, ◌-◌, ◌<◌, ◌≤◌, cond, leb, List, [], length, ℤ, sym, refl, ap, ◌∙◌, arith, w32, SFits, to_z, of_z, le-leb}
+use Rattle.std.proofs.Common.{◌≡◌, ℕ, zero, suc, ◌+◌, ◌<◌, ◌≤◌, cond, leb, List, [], length, ℤ, sym, refl, ap, ◌∙◌, arith, w32, SFits, to_z, of_z, le-leb}
 use native.Mathlib.Decide.{dec_le}
 use borrow.Author.Tests.{lt-leb}
 use mir.ValLaws.{to_z-of_z}

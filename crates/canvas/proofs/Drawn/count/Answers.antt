@@ -1,5 +1,5 @@
 -- By the answer's two cases.
-use Rattle.std.proofs.Common.{refl, rules}
+use Rattle.std.proofs.Common.{refl}
 use Rattle.canvas.specs.Call.{count_of}
 use Rattle.canvas.proofs.Drawn.count.Goals as goal
 

@@ -1,5 +1,5 @@
 -- Each case has its number.
-use Rattle.std.proofs.Common.{refl, rules}
+use Rattle.std.proofs.Common.{refl}
 use Rattle.canvas.specs.Faults.{number}
 use Rattle.canvas.proofs.Refusal.number.Goals as goal
 

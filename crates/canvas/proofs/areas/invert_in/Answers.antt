@@ -1,5 +1,5 @@
 -- The fill's pixels are inked with the format's inversion, on a canvas that differs in XOR alone.
-use Rattle.std.proofs.Common.{false, refl, rules}
+use Rattle.std.proofs.Common.{false, refl}
 use Rattle.canvas.proofs.plot.Draws.{xored, sized_xored, did_xored, ready_few}
 use Rattle.canvas.proofs.boxes.Boxes.{fill-le, inks-few}
 use Rattle.canvas.specs.Boxes.{fill}

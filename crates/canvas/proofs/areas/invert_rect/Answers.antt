@@ -1,5 +1,5 @@
 -- A refusal is the first fault; else the box's pixels are inked with the format's inversion.
-use Rattle.std.proofs.Common.{sym, ◌∙◌, rules}
+use Rattle.std.proofs.Common.{sym, ◌∙◌}
 use Rattle.words.specs.Invert.{invert_ink}
 use Rattle.words.proofs.Invert.{invert-is}
 use Rattle.pixels.specs.Bytes.{form}

@@ -1,5 +1,5 @@
 -- A refusal is the first fault; else the outline's plots with the colour's ink are made.
-use Rattle.std.proofs.Common.{refl, rules}
+use Rattle.std.proofs.Common.{refl}
 use Rattle.canvas.specs.declared.faults.Verdict.TheVariants.{Sound}
 use Rattle.canvas.specs.Boxes.{outline}
 use Rattle.canvas.specs.Call.{dots}

@@ -1,5 +1,5 @@
 -- A row below the width has a tail that wraps around, and is then above 32,767.
-use Rattle.std.proofs.Common.{◌∙◌, rules}
+use Rattle.std.proofs.Common.{◌∙◌}
 use Rattle.canvas.proofs.faults.Limits.{wraps_off}
 use Rattle.canvas.proofs.faults.is_off.Goals as goal
 

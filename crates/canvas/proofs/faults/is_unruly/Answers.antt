@@ -1,6 +1,5 @@
 -- A rule less 1 is above 1 unless it is 1 or 2.
 use Rattle.canvas.proofs.faults.Limits.{unruly_is}
-use Rattle.std.proofs.Common.{rules}
 use Rattle.canvas.proofs.faults.is_unruly.Goals as goal
 
 pub returns : goal.returns

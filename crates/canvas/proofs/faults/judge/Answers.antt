@@ -1,5 +1,5 @@
 -- The tests in the order of the code, and the first fault in the order of the refusals.
-use Rattle.std.proofs.Common.{sym, refl, ◌∙◌, rules, le-ltb, lt-ltb}
+use Rattle.std.proofs.Common.{sym, refl, ◌∙◌, le-ltb, lt-ltb}
 use borrow.Author.Tests.{not-true, not-false}
 use Rattle.canvas.specs.Faults.{format_fault, or_else, first, verdict}
 use Rattle.canvas.proofs.faults.Verdicts.{rule_first, size-first, row_first, length-first, none_first, narrow, rows_even}

@@ -1,5 +1,5 @@
 -- The first of two faults, by its cases.
-use Rattle.std.proofs.Common.{refl, rules}
+use Rattle.std.proofs.Common.{refl}
 use Rattle.canvas.specs.Faults.{or_else}
 use Rattle.canvas.proofs.faults.or_else.Goals as goal
 

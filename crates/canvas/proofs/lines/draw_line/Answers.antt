@@ -1,5 +1,5 @@
 -- A refusal is the first fault; else the line's plots with the colour's ink are made.
-use Rattle.std.proofs.Common.{arith, rules}
+use Rattle.std.proofs.Common.{arith}
 use Rattle.canvas.specs.declared.faults.Verdict.TheVariants.{Sound}
 use Rattle.words.specs.Ink.{inked}
 use Rattle.canvas.specs.Lines.{line}

@@ -1,5 +1,5 @@
 -- One forward, or one back.
-use Rattle.std.proofs.Common.{refl, arith, rules}
+use Rattle.std.proofs.Common.{refl, arith}
 use Rattle.canvas.specs.Trail.{toward}
 use Rattle.canvas.proofs.lines.moved.Goals as goal
 

@@ -1,5 +1,5 @@
 -- The walk by the bytes of a word, in the window of canvas and clip.
-use Rattle.std.proofs.Common.{sym, rules}
+use Rattle.std.proofs.Common.{sym}
 use Rattle.pixels.proofs.bytes.Places.{one_byte, two_bytes, four_bytes}
 use Rattle.canvas.proofs.plot.Dabs.{window_fields, window_of}
 use Rattle.canvas.proofs.lines.Loops.{segment-goes, segment_did}

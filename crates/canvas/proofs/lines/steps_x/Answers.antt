@@ -1,5 +1,5 @@
 -- The test of the definition.
-use Rattle.std.proofs.Common.{refl, arith, rules}
+use Rattle.std.proofs.Common.{refl, arith}
 use Rattle.canvas.proofs.lines.Ways.{small}
 use Rattle.canvas.specs.Trail.{across}
 use Rattle.canvas.proofs.lines.steps_x.Goals as goal

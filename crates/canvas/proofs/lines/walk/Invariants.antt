@@ -1,12 +1,8 @@
 -- What is left of the trail leads to the same end.
-use Rattle.std.proofs.Common.{length, ap, ◌∙◌, ⊎_elim, arith}
 use Rattle.words.specs.Ink.{inked}
-use Rattle.canvas.specs.Walk.{Work, work}
+use Rattle.canvas.specs.Walk.{work}
 use Rattle.canvas.specs.Trail.{ahead, trail}
-use Rattle.pixels.proofs.bytes.Pixels.{sized-length}
-use Rattle.canvas.proofs.plot.Dabs.{dabbed-length, dabbing_length}
-use Rattle.canvas.proofs.lines.Ways.{not_end, nearer}
-use Rattle.canvas.proofs.lines.Loops.{OnWay, way_start, way_room, way_turn, way_end}
+use Rattle.canvas.proofs.lines.Loops.{OnWay}
 use Rattle.canvas.proofs.lines.walk.Given as goal
 
 abbrev pub invariant-loop-s : goal.invariant-loop-s

@@ -1,5 +1,5 @@
 -- A refusal is the first fault; else the point is read.
-use Rattle.std.proofs.Common.{sym, ◌∙◌, rules}
+use Rattle.std.proofs.Common.{sym, ◌∙◌}
 use Rattle.canvas.proofs.faults.Verdicts.{sized}
 use Rattle.canvas.proofs.look.Looks.{reads_refusal, reads_sound}
 use Rattle.canvas.proofs.look.get_pixel.Goals as goal

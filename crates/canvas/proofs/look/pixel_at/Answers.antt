@@ -1,5 +1,5 @@
 -- One test finds a point off the canvas; the word of any other is read as a colour.
-use Rattle.std.proofs.Common.{sym, ◌∙◌, rules}
+use Rattle.std.proofs.Common.{sym, ◌∙◌}
 use borrow.Author.Tests.{not-true, not-false}
 use Rattle.canvas.proofs.plot.Fates.{lifted_on}
 use Rattle.canvas.proofs.look.Looks.{reads_nothing, reads-color}

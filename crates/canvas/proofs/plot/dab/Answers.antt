@@ -1,5 +1,5 @@
 -- Two tests, and the pixel inked and counted.
-use Rattle.std.proofs.Common.{sym, ◌∙◌, arith, rules}
+use Rattle.std.proofs.Common.{sym, ◌∙◌, arith}
 use borrow.Author.Tests.{not-true, not-false}
 use Rattle.words.specs.Ink.{inked}
 use Rattle.canvas.proofs.plot.Dabs.{covered, misses_x, misses_y, dab_lands}
@@ -24,10 +24,33 @@ pub overflow_sub-y : goal.overflow_sub-y
 overflow_sub-y c = omega (arith, (covered c.args.ys c.args.q (sym c.is_covered-2.ensures ∙ not-false _ c.if-not-is_covered-2.false-raw)).low)
 
 pub touch_by-requires : goal.touch_by-requires
-touch_by-requires c = (c.requires.0, (record { across = omega (arith, (covered c.args.xs c.args.p (sym c.is_covered.ensures ∙ not-false _ c.if-not-is_covered.false-raw)).inside, c.requires.1.0.held_x); down = omega (arith, (covered c.args.ys c.args.q (sym c.is_covered-2.ensures ∙ not-false _ c.if-not-is_covered-2.false-raw)).inside, c.requires.1.0.held-y) }, c.requires.1.1.0))
+touch_by-requires c =
+    let a = c.args in
+    let pre = c.requires in (
+      pre.0,
+      (
+        record {
+          across = omega (
+            arith,
+            (covered a.xs a.p
+                (sym c.is_covered.ensures ∙ not-false _ c.if-not-is_covered.false-raw)).inside,
+            pre.1.0.held_x,
+          );
+          down = omega (
+            arith,
+            (covered a.ys a.q (sym c.is_covered-2.ensures ∙ not-false _ c.if-not-is_covered-2.false-raw)).inside,
+            pre.1.0.held-y,
+          );
+        },
+        pre.1.1.0,
+      ),
+    )
 
 pub landed_more-requires : goal.landed_more-requires
 landed_more-requires c = c.requires.1.1.1
 
 pub returns : goal.returns
-returns c = dab_lands c.args.canvas c.args.xs c.args.ys (inked c.args.ink) c.args.p c.args.q (sym c.is_covered.ensures ∙ not-false _ c.if-not-is_covered.false-raw) (sym c.is_covered-2.ensures ∙ not-false _ c.if-not-is_covered-2.false-raw) _ _ _ _ c.touch_by.ensures c.landed_more.ensures
+returns c =
+    let a = c.args in
+    dab_lands a.canvas a.xs a.ys (inked a.ink) a.p a.q (sym c.is_covered.ensures ∙ not-false _ c.if-not-is_covered.false-raw)
+    (sym c.is_covered-2.ensures ∙ not-false _ c.if-not-is_covered-2.false-raw) _ _ _ _ c.touch_by.ensures c.landed_more.ensures

@@ -1,6 +1,5 @@
 -- One test in place of the definition's two.
 use Rattle.canvas.proofs.plot.Dabs.{past}
-use Rattle.std.proofs.Common.{rules}
 use Rattle.canvas.proofs.plot.is_covered.Goals as goal
 
 pub returns : goal.returns

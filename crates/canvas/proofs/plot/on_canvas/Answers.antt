@@ -1,5 +1,5 @@
 -- The two sides of the canvas.
-use Rattle.std.proofs.Common.{refl, rules}
+use Rattle.std.proofs.Common.{refl}
 use Rattle.canvas.specs.Plot.{on_canvas}
 use Rattle.canvas.proofs.plot.on_canvas.Goals as goal
 

@@ -1,5 +1,5 @@
 -- A refusal is the first fault; else one plot with the colour's ink is made.
-use Rattle.std.proofs.Common.{[], ◌∷◌, refl, arith, rules}
+use Rattle.std.proofs.Common.{[], ◌∷◌, refl, arith}
 use Rattle.canvas.specs.declared.faults.Verdict.TheVariants.{Sound}
 use Rattle.canvas.specs.Plot.{at, inks}
 use Rattle.canvas.specs.Call.{dots}

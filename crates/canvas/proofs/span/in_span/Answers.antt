@@ -1,6 +1,5 @@
 -- One test in place of the definition's two, among lifted numbers.
 use Rattle.canvas.proofs.span.Spans.{span_around}
-use Rattle.std.proofs.Common.{rules}
 use Rattle.canvas.proofs.span.in_span.Goals as goal
 
 pub returns : goal.returns

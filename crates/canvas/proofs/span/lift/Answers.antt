@@ -1,5 +1,5 @@
 -- What is 2^31 above a signed number is not negative.
-use Rattle.std.proofs.Common.{refl, arith, rules}
+use Rattle.std.proofs.Common.{refl, arith}
 use Rattle.canvas.proofs.span.Lifts.{lifted-lt, raised_is}
 use Rattle.canvas.proofs.span.lift.Goals as goal
 

@@ -1,6 +1,5 @@
 -- One test in place of the definition's two.
 use Rattle.canvas.proofs.plot.Fates.{side_around}
-use Rattle.std.proofs.Common.{rules}
 use Rattle.canvas.proofs.span.on_side.Goals as goal
 
 pub returns : goal.returns

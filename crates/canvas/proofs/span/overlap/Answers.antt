@@ -1,5 +1,5 @@
 -- The larger start and the smaller end, lowered and held to the side.
-use Rattle.std.proofs.Common.{arith, rules}
+use Rattle.std.proofs.Common.{arith}
 use Rattle.canvas.proofs.span.Lifts.{lift_lt}
 use Rattle.canvas.proofs.span.Spans.{is_overlap}
 use Rattle.canvas.proofs.span.overlap.Goals as goal

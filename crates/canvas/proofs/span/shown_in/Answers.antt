@@ -1,5 +1,5 @@
 -- The largest start and the smallest end, lowered and held to the side.
-use Rattle.std.proofs.Common.{refl, arith, rules}
+use Rattle.std.proofs.Common.{refl, arith}
 use Rattle.canvas.proofs.span.Lifts.{lift_lt}
 use Rattle.canvas.proofs.span.Spans.{is-shown}
 use Rattle.canvas.proofs.span.shown_in.Goals as goal

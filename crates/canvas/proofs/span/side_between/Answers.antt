@@ -1,5 +1,5 @@
 -- Both are lowered, the end is held to the side, and they are put in order.
-use Rattle.std.proofs.Common.{◌∙◌, ap₂, rules}
+use Rattle.std.proofs.Common.{◌∙◌, ap₂}
 use Rattle.canvas.specs.Walk.{in_order}
 use Rattle.canvas.proofs.span.side_between.Goals as goal
 

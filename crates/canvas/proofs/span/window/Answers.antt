@@ -1,5 +1,5 @@
 -- The clip's span, lowered and held to the side.
-use Rattle.std.proofs.Common.{arith, rules}
+use Rattle.std.proofs.Common.{arith}
 use Rattle.canvas.proofs.span.Lifts.{lift_lt}
 use Rattle.canvas.proofs.span.Spans.{is_window}
 use Rattle.canvas.proofs.span.window.Goals as goal

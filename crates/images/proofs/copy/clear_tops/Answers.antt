@@ -1,9 +1,6 @@
 -- The words before i are cleared.
 use native.Mathlib.Omega.{arith}
-use Prim.Native.Nat.{◌-◌}
-use lib.ListN.{length}
-use borrow.Author.Rules.{rules}
-use Rattle.images.proofs.copy.Moves.{Cleared, cleared_none, cleared_more, cleared_all}
+use Rattle.images.proofs.copy.Moves.{cleared_none, cleared_more, cleared_all}
 use Rattle.images.proofs.copy.clear_tops.Goals as goal
 
 pub loop-i-init : goal.loop-i-init

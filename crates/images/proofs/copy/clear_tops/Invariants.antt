@@ -1,9 +1,7 @@
 -- The words before i are cleared.
-use native.Mathlib.Omega.{arith}
 use Prim.Native.Nat.{◌-◌}
 use lib.ListN.{length}
-use borrow.Author.Rules.{rules}
-use Rattle.images.proofs.copy.Moves.{Cleared, cleared_none, cleared_more, cleared_all}
+use Rattle.images.proofs.copy.Moves.{Cleared}
 use Rattle.images.proofs.copy.clear_tops.Given as goal
 
 abbrev pub invariant-loop-i : goal.invariant-loop-i

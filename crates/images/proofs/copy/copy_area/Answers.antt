@@ -5,7 +5,6 @@ use Prim.Native.Nat.{ℕ}
 use mir.Syntax.{w32}
 use mir.ValLaws.{to_z-of_z}
 use Rattle.canvas.specs.Call.{Outcome}
-use borrow.Author.Rules.{rules}
 use Rattle.images.proofs.copy.copy_area.Goals as goal
 
 pub returns : goal.returns

@@ -1,12 +1,8 @@
 -- What is done was not read again after it was written.
-use native.Mathlib.Omega.{arith}
-use mathlib.Core.Path.{◌≡◌, refl, sym, ◌∙◌}
+use mathlib.Core.Path.{◌≡◌}
 use Prim.Native.Nat.{◌-◌}
-use lib.Dec.{leb}
 use lib.ListN.{length}
-use borrow.Author.Rules.{rules}
-use Rattle.pixels.proofs.bytes.Pixels.{sized-length}
-use Rattle.images.proofs.copy.Moves.{Rows, rows-sized, way_of, rows_none, rows_more, rows_all, part_at}
+use Rattle.images.proofs.copy.Moves.{Rows}
 use Rattle.images.proofs.copy.copy_box.Given as goal
 
 abbrev pub invariant-loop-k : goal.invariant-loop-k

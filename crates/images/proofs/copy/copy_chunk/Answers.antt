@@ -1,6 +1,5 @@
 -- All of the chunk is read before any of it is written.
 use Rattle.images.proofs.copy.Moves.{chunk_done}
-use borrow.Author.Rules.{rules}
 use Rattle.pixels.proofs.chunks.Chunks.{words-taken}
 use Rattle.images.proofs.copy.copy_chunk.Goals as goal
 

@@ -17,7 +17,6 @@ use Rattle.canvas.proofs.plot.Answers.{declines, accepts, finishes}
 use Rattle.canvas.proofs.boxes.Boxes.{shown-hits, field_did}
 use Rattle.images.specs.Areas.{copied, copy_area}
 use Rattle.images.proofs.copy.Moves.{copies, with_count}
-use borrow.Author.Rules.{rules}
 use Rattle.images.proofs.copy.copy_counted.Goals as goal
 
 pub shown_in-xs-requires : goal.shown_in-xs-requires

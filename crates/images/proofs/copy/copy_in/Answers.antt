@@ -2,7 +2,6 @@
 use native.Mathlib.Omega.{arith}
 use mathlib.Core.Path.{sym, ◌∙◌}
 use Rattle.images.proofs.copy.Moves.{none_of, some-columns, some-rows, paint-nothing}
-use borrow.Author.Rules.{rules}
 use Rattle.images.proofs.copy.copy_in.Goals as goal
 
 pub returns-then-n-eq0 : goal.returns-then-n-eq0

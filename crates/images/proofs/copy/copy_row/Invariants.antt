@@ -1,14 +1,8 @@
 -- What is done was not read again after it was written.
-use native.Mathlib.Omega.{arith}
-use mathlib.Core.Path.{◌≡◌, refl, sym, ◌∙◌}
+use mathlib.Core.Path.{◌≡◌}
 use Prim.Native.Nat.{◌-◌}
-use lib.Dec.{leb}
 use lib.ListN.{length}
-use lib.Seq.{length-take-le}
-use borrow.Author.Rules.{rules}
-use Rattle.pixels.proofs.bytes.Pixels.{sized-length}
-use Rattle.images.proofs.copy.Moves.{Moved, moved_sized, way_of, row_none, row_more, row_all, part_at}
-use Rattle.images.proofs.copy.Chunked.{prefix_kept, part_fits}
+use Rattle.images.proofs.copy.Moves.{Moved}
 use Rattle.images.proofs.copy.copy_row.Given as goal
 
 abbrev pub invariant-loop-k : goal.invariant-loop-k

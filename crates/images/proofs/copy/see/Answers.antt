@@ -1,6 +1,5 @@
 -- Only Rgb8 has bytes that reading does not see.
 use Rattle.images.proofs.copy.Moves.{seen_same, rgb8-is}
-use borrow.Author.Rules.{rules}
 use Rattle.images.proofs.copy.see.Goals as goal
 
 pub returns-then-format-eq2 : goal.returns-then-format-eq2

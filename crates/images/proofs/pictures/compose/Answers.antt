@@ -6,7 +6,6 @@ use Rattle.blending.specs.Loops.{blended}
 use Rattle.pixels.specs.Bytes.{form}
 use Rattle.canvas.specs.Call.{carried}
 use Rattle.images.proofs.pictures.Overlays.{solid-stores}
-use borrow.Author.Rules.{rules}
 use Rattle.images.proofs.pictures.compose.Goals as goal
 
 pub returns-then-source-lt3 : goal.returns-then-source-lt3
@@ -18,3 +17,6 @@ returns-then-source-lt3 c =
     c.store_words.ensures
     ∙ solid-stores f k cs ws (λ i l. c.requires.1.solid c.if-source-lt3.true i l)
     ∙ ap (λ (t : Bool). blended f k t cs ws) (sym (not-true _ c.if-not-canvas.true))
+
+pub returns : goal.returns
+returns c = c.blend_words.ensures

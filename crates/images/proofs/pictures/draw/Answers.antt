@@ -15,7 +15,6 @@ use Rattle.canvas.proofs.plot.Answers.{accepts, canvas_first, source_next, sourc
 use Rattle.canvas.proofs.boxes.Boxes.{shown-hits, field_did}
 use Rattle.images.proofs.pictures.Overlays.{picture-spots, draws_over}
 use Rattle.canvas.proofs.span.Sources.{shown-is}
-use borrow.Author.Rules.{rules}
 use Rattle.images.proofs.pictures.draw.Goals as goal
 
 pub shown_in-xs-requires : goal.shown_in-xs-requires

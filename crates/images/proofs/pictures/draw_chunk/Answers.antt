@@ -2,7 +2,6 @@
 use native.Mathlib.Omega.{arith}
 use mathlib.Core.Path.{◌∙◌}
 use Rattle.images.proofs.pictures.Overlays.{chunk_draws, solid-read}
-use borrow.Author.Rules.{rules}
 use Rattle.pixels.proofs.chunks.Chunks.{words-taken}
 use Rattle.images.proofs.pictures.draw_chunk.Goals as goal
 
@@ -13,4 +12,8 @@ pub lay-requires : goal.lay-requires
 lay-requires c = (c.requires.0, (omega (arith, c.compose.auto.ws, c.take-2.auto.ws, c.requires.1.1.0), c.requires.1.1.1.1.0))
 
 pub returns : goal.returns
-returns c = chunk_draws c.args.canvas c.args.source c.args.b.now _ c.args.image.now c.args.y c.args.x c.args.sy c.args.sx _ _ _ _ _ c.requires.1.1.1.1.0 c.requires.1.1.0 (c.take.auto.ws ∙ c.requires.1.1.1.1.1.1) c.take-2.auto.ws (words-taken _ _ _ _ _ c.take.ensures) c.read_colors.ensures (words-taken _ _ _ _ _ c.take-2.ensures) c.compose.ensures c.lay.ensures
+returns c =
+    let a = c.args in
+    chunk_draws a.canvas a.source a.b.now _ a.image.now a.y a.x a.sy a.sx _ _ _ _ _ c.requires.1.1.1.1.0 c.requires.1.1.0
+    (c.take.auto.ws ∙ c.requires.1.1.1.1.1.1) c.take-2.auto.ws (words-taken _ _ _ _ _ c.take.ensures) c.read_colors.ensures
+    (words-taken _ _ _ _ _ c.take-2.ensures) c.compose.ensures c.lay.ensures

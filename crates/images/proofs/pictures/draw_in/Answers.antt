@@ -9,10 +9,22 @@ use Rattle.images.proofs.copy.Moves.{none-across, none-down, paint-nothing, less
 use Rattle.images.proofs.pictures.draw_in.Goals as goal
 
 pub returns-then-xs : goal.returns-then-xs
-returns-then-xs c = (paint-nothing c.args.canvas _ c.args.b.now (none-across (overlaid c.args.canvas c.args.source c.args.image.now c.args.xs.from c.args.ys.from (c.args.xs.from + c.args.u - c.args.p) (c.args.ys.from + c.args.v - c.args.q)) c.args.xs.from c.args.xs.to _ c.if-xs.true), let z : c.args.xs.to - c.args.xs.from ≡ 0 = omega (arith, c.if-xs.true) in sym (ap (λ (k : ℕ). (c.args.ys.to - c.args.ys.from) * k) z ∙ mul-zero _))
+returns-then-xs c =
+    let a = c.args in (
+      paint-nothing a.canvas _ a.b.now (none-across (overlaid a.canvas a.source a.image.now a.xs.from a.ys.from
+          (a.xs.from + a.u - a.p) (a.ys.from + a.v - a.q)) a.xs.from a.xs.to _ c.if-xs.true),
+      let z : a.xs.to - a.xs.from ≡ 0 = omega (arith, c.if-xs.true) in
+          sym (ap (λ (k : ℕ). (a.ys.to - a.ys.from) * k) z ∙ mul-zero _),
+    )
 
 pub returns-then-ys : goal.returns-then-ys
-returns-then-ys c = (paint-nothing c.args.canvas _ c.args.b.now (none-down (overlaid c.args.canvas c.args.source c.args.image.now c.args.xs.from c.args.ys.from (c.args.xs.from + c.args.u - c.args.p) (c.args.ys.from + c.args.v - c.args.q)) c.args.ys.from c.args.ys.to _ c.if-ys.true), let z : c.args.ys.to - c.args.ys.from ≡ 0 = omega (arith, c.if-ys.true) in sym (ap (λ (k : ℕ). k * (c.args.xs.to - c.args.xs.from)) z ∙ zero-mul _))
+returns-then-ys c =
+    let a = c.args in (
+      paint-nothing a.canvas _ a.b.now (none-down (overlaid a.canvas a.source a.image.now a.xs.from a.ys.from
+          (a.xs.from + a.u - a.p) (a.ys.from + a.v - a.q)) a.ys.from a.ys.to _ c.if-ys.true),
+      let z : a.ys.to - a.ys.from ≡ 0 = omega (arith, c.if-ys.true) in
+          sym (ap (λ (k : ℕ). k * (a.xs.to - a.xs.from)) z ∙ zero-mul _),
+    )
 
 pub overflow_add-sx : goal.overflow_add-sx
 overflow_add-sx c = record { fits = omega (arith, c.requires.1.1.1.1.0, c.requires.1.1.0, c.requires.0.wide, c.requires.1.1.1.1.1.1.1.1.0) }
@@ -27,7 +39,23 @@ pub overflow_sub-sy : goal.overflow_sub-sy
 overflow_sub-sy c = c.requires.1.1.1.1.1.1.1.0.begins (less_than c.requires.1.1.1.0 c.if-ys.false)
 
 pub draw_box-requires : goal.draw_box-requires
-draw_box-requires c = (c.requires.0, (c.requires.1.0, (omega (arith, c.requires.1.1.1.1.0, c.requires.1.1.0), (omega (arith, c.requires.1.1.1.1.1.0, c.requires.1.1.1.0), (c.requires.1.1.1.1.1.1.0.ends (less_than c.requires.1.1.0 c.if-xs.false), (c.requires.1.1.1.1.1.1.1.0.ends (less_than c.requires.1.1.1.0 c.if-ys.false), (c.requires.1.1.0, c.requires.1.1.1.0)))))))
+draw_box-requires c =
+    let pre = c.requires in (
+      pre.0,
+      (
+        pre.1.0,
+        (
+          omega (arith, pre.1.1.1.1.0, pre.1.1.0),
+          (
+            omega (arith, pre.1.1.1.1.1.0, pre.1.1.1.0),
+            (
+              pre.1.1.1.1.1.1.0.ends (less_than pre.1.1.0 c.if-xs.false),
+              (pre.1.1.1.1.1.1.1.0.ends (less_than pre.1.1.1.0 c.if-ys.false), (pre.1.1.0, pre.1.1.1.0)),
+            ),
+          ),
+        ),
+      ),
+    )
 
 pub overflow_sub-result : goal.overflow_sub-result
 overflow_sub-result c = c.requires.1.1.1.0
@@ -36,7 +64,16 @@ pub overflow_sub-result-2 : goal.overflow_sub-result-2
 overflow_sub-result-2 c = c.requires.1.1.0
 
 pub overflow_mul-result : goal.overflow_mul-result
-overflow_mul-result c = record { fits = omega (arith, area-le (c.args.xs.to - c.args.xs.from) (c.args.ys.to - c.args.ys.from) (omega (arith, c.requires.1.1.1.1.0, c.requires.0.wide)) (omega (arith, c.requires.1.1.1.1.1.0, c.requires.0.high))) }
+overflow_mul-result c =
+    let a = c.args in
+    let pre = c.requires in
+    record {
+      fits = omega (
+        arith,
+        area-le (a.xs.to - a.xs.from) (a.ys.to - a.ys.from) (omega (arith, pre.1.1.1.1.0, pre.0.wide))
+            (omega (arith, pre.1.1.1.1.1.0, pre.0.high)),
+      );
+    }
 
 pub shape_of-b : goal.shape_of-b
 shape_of-b c = c.draw_box.auto.b

@@ -1,13 +1,8 @@
 -- What is done leaves the rest of the row as it was.
-use native.Mathlib.Omega.{arith}
-use mathlib.Core.Path.{◌≡◌, refl, sym, ◌∙◌}
+use mathlib.Core.Path.{◌≡◌}
 use Prim.Native.Nat.{◌-◌}
 use lib.ListN.{length}
-use lib.Seq.{length-take-le}
-use borrow.Author.Rules.{rules}
-use Rattle.pixels.proofs.bytes.Pixels.{sized-length}
-use Rattle.images.proofs.copy.Chunked.{prefix_kept, part_fits}
-use Rattle.images.proofs.pictures.Overlays.{Overlaid, over_none, over-more, over_all, over-length}
+use Rattle.images.proofs.pictures.Overlays.{Overlaid}
 use Rattle.images.proofs.pictures.draw_row.Given as goal
 
 abbrev pub invariant-loop-k : goal.invariant-loop-k

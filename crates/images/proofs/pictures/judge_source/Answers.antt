@@ -1,6 +1,5 @@
 -- Any fault of the source is one number.
 use mathlib.Core.Path.{refl}
-use borrow.Author.Rules.{rules}
 use Rattle.images.proofs.pictures.judge_source.Goals as goal
 
 pub returns-in-Sound : goal.returns-in-Sound

@@ -1,5 +1,5 @@
 -- The tests of the definition, the start first.
-use Rattle.std.proofs.Common.{true, false, pos, negsuc, refl, rules}
+use Rattle.std.proofs.Common.{true, false, pos, negsuc, refl}
 use Rattle.ovals.specs.Faults.{angle_fault}
 use Rattle.ovals.proofs.faults.Bounds.{told}
 use Rattle.ovals.proofs.faults.angle_fault.Goals as goal

@@ -1,5 +1,5 @@
 -- The angles are asked first, and the first fault is given.
-use Rattle.std.proofs.Common.{◌≡◌, ◌∙◌, ap₂, w32, rules}
+use Rattle.std.proofs.Common.{◌≡◌, ◌∙◌, ap₂, w32}
 use mir.ValLaws.{to_z-of_z}
 use Rattle.canvas.specs.Faults.{or_else}
 use Rattle.ovals.specs.Faults.{angle_fault, arc_fault}

@@ -1,5 +1,5 @@
 -- The tests of the definition, in its order.
-use Rattle.std.proofs.Common.{true, false, pos, negsuc, refl, rules, le-ltb, lt-ltb}
+use Rattle.std.proofs.Common.{true, false, pos, negsuc, refl, le-ltb, lt-ltb}
 use Rattle.ovals.specs.Faults.{shape_fault}
 use Rattle.ovals.proofs.faults.Bounds.{told}
 use Rattle.ovals.proofs.faults.shape_fault.Goals as goal

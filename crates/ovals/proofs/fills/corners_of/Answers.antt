@@ -1,6 +1,5 @@
 -- The last column and row lie a side less one from the first.
 use Rattle.ovals.proofs.fills.Sieves.{last_fits, corners_are}
-use Rattle.std.proofs.Common.{rules}
 use Rattle.ovals.proofs.fills.corners_of.Goals as goal
 
 pub overflow_add-right : goal.overflow_add-right

@@ -1,5 +1,5 @@
 -- The two tests of the definition.
-use Rattle.std.proofs.Common.{◌||◌, eqb, rules}
+use Rattle.std.proofs.Common.{◌||◌, eqb}
 use Rattle.canvas.proofs.boxes.Boxes.{first_holds, second_says}
 use Rattle.ovals.proofs.fills.is_plain.Goals as goal
 

@@ -1,5 +1,5 @@
 -- A box without columns or rows has no pie; else the pie is a region.
-use Rattle.std.proofs.Common.{sym, ◌∙◌, arith, w32, rules}
+use Rattle.std.proofs.Common.{sym, ◌∙◌, arith, w32}
 use mir.ValLaws.{to_z-of_z}
 use Rattle.words.specs.Ink.{inked}
 use Rattle.canvas.proofs.span.Lifts.{lowers, lift_lt}

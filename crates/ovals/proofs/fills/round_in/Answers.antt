@@ -1,5 +1,5 @@
 -- With a side or an arc size 0 the round fill is a fill; else it is a region.
-use Rattle.std.proofs.Common.{◌||◌, eqb, sym, ◌∙◌, arith, rules}
+use Rattle.std.proofs.Common.{◌||◌, eqb, sym, ◌∙◌, arith}
 use Rattle.canvas.proofs.span.Lifts.{lowers, lift_lt}
 use Rattle.words.proofs.Either.{neither}
 use Rattle.canvas.proofs.boxes.Boxes.{some_sides}

@@ -1,5 +1,5 @@
 -- The edges, then the upper quarters, then the lower ones.
-use Rattle.std.proofs.Common.{false, arith, rules}
+use Rattle.std.proofs.Common.{false, arith}
 use lib.Ieee.{of_bits}
 use Rattle.words.specs.Ink.{inked}
 use Rattle.canvas.specs.Boxes.{edges}

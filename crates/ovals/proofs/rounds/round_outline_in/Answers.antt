@@ -1,5 +1,5 @@
 -- With a side or an arc size 0 a plain outline; else edges and quarters.
-use Rattle.std.proofs.Common.{◌||◌, eqb, sym, ◌∙◌, arith, w32, rules}
+use Rattle.std.proofs.Common.{◌||◌, eqb, sym, ◌∙◌, arith, w32}
 use mir.ValLaws.{to_z-of_z}
 use Rattle.canvas.proofs.span.Lifts.{lowers, lift_lt}
 use Rattle.words.specs.Ink.{inked}

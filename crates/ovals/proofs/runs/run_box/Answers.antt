@@ -1,10 +1,9 @@
 -- What is left of the rows leads to the same end as all of them.
-use Rattle.std.proofs.Common.{◌-◌, ◌*◌, ◌<◌, arith}
+use Rattle.std.proofs.Common.{◌-◌, arith}
 use Rattle.words.specs.Ink.{inked}
 use Rattle.pixels.specs.Rows.{run}
-use Rattle.canvas.specs.Walk.{work}
 use Rattle.ovals.specs.Sift.{sifts, region_at}
-use Rattle.ovals.proofs.runs.Sifts.{Going, left-start, left-length, left-sized, rows-room, rows-turn, rows_end}
+use Rattle.ovals.proofs.runs.Sifts.{left-start, left-length, left-sized, rows-room, rows-turn, rows_end}
 use Rattle.ovals.proofs.runs.Rows.{at_row, in_rows, rising_row, run_of}
 use Rattle.ovals.proofs.runs.Asked.{asks_row}
 use Rattle.ovals.proofs.runs.run_box.Goals as goal

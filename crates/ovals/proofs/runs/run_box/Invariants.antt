@@ -1,16 +1,17 @@
 -- What is left of the rows leads to the same end as all of them.
-use Rattle.std.proofs.Common.{◌-◌, ◌*◌, ◌<◌, arith}
+use Rattle.std.proofs.Common.{◌-◌, ◌*◌, ◌<◌}
 use Rattle.words.specs.Ink.{inked}
 use Rattle.pixels.specs.Rows.{run}
 use Rattle.canvas.specs.Walk.{work}
 use Rattle.ovals.specs.Sift.{sifts, region_at}
-use Rattle.ovals.proofs.runs.Sifts.{Going, left-start, left-length, left-sized, rows-room, rows-turn, rows_end}
-use Rattle.ovals.proofs.runs.Rows.{at_row, in_rows, rising_row, run_of}
-use Rattle.ovals.proofs.runs.Asked.{asks_row}
+use Rattle.ovals.proofs.runs.Sifts.{Going}
 use Rattle.ovals.proofs.runs.run_box.Given as goal
 
 abbrev pub invariant-loop-y : goal.invariant-loop-y
-invariant-loop-y l =     (Going l.canvas (sifts (region_at l.sx l.sy l.k l.p l.q) (inked l.ink) (run l.x0 (l.x1 - l.x0))) l.initial.y l.y l.y1 (work l.b l.n) (work l.initial.b l.initial.n)) × (2 * l.i < l.sx.count)
+invariant-loop-y l =
+    (Going l.canvas (sifts (region_at l.sx l.sy l.k l.p l.q) (inked l.ink) (run l.x0 (l.x1 - l.x0)))
+    l.initial.y l.y l.y1 (work l.b l.n) (work l.initial.b l.initial.n))
+    × (2 * l.i < l.sx.count)
 
 abbrev pub decreases-loop-y : goal.decreases-loop-y
 decreases-loop-y l = l.y1 - l.y

@@ -1,5 +1,5 @@
 -- What lands of the sieve is what passes in the two overlaps.
-use Rattle.std.proofs.Common.{w32, SFits, rules}
+use Rattle.std.proofs.Common.{w32, SFits}
 use Rattle.words.specs.Ink.{inked}
 use Rattle.canvas.specs.Plot.{inks}
 use Rattle.canvas.specs.Boxes.{side}

@@ -1,5 +1,5 @@
 -- Outside of the run no pixel of the row is taken, and in it those that the sweep has.
-use Rattle.std.proofs.Common.{arith, rules}
+use Rattle.std.proofs.Common.{arith}
 use Rattle.words.specs.Ink.{inked}
 use Rattle.curves.specs.Pies.{covers}
 use Rattle.canvas.specs.Walk.{work}

@@ -1,5 +1,4 @@
 -- The sides are those of the definition.
-use Rattle.std.proofs.Common.{rules}
 use Rattle.canvas.proofs.boxes.Chains.{did_same, ready_same}
 use Rattle.ovals.proofs.runs.Regions.{pie-same, pie_side_of}
 use Rattle.ovals.proofs.runs.Asked.{asks_sides}

@@ -1,10 +1,10 @@
 -- What is left of the row leads to the same end as all of it; a turn inks one run.
-use Rattle.std.proofs.Common.{◌+◌, ◌-◌, ◌≤◌, refl, arith, rules}
+use Rattle.std.proofs.Common.{◌+◌, ◌≤◌, refl, arith}
 use Rattle.words.specs.Ink.{inked}
 use Rattle.curves.specs.Pies.{covers}
 use Rattle.canvas.specs.Walk.{work}
 use Rattle.ovals.specs.Sift.{sift}
-use Rattle.ovals.proofs.runs.Sifts.{Found, found_first, left-length, left-sized, run_less, run_room, run-turn, rows_end}
+use Rattle.ovals.proofs.runs.Sifts.{found_first, left-length, left-sized, run_less, run_room, run-turn, rows_end}
 use Rattle.ovals.proofs.runs.Asked.{swept-part}
 use Rattle.ovals.proofs.runs.sift_row.Goals as goal
 

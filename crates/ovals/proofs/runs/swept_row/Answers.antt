@@ -1,5 +1,5 @@
 -- A sweep of all has each pixel.
-use Rattle.std.proofs.Common.{refl, rules}
+use Rattle.std.proofs.Common.{refl}
 use Rattle.words.specs.Ink.{inked}
 use Rattle.curves.specs.Pies.{covers}
 use Rattle.curves.proofs.Parts.{covers_all}

@@ -1,5 +1,5 @@
 -- With a side 0 nothing is plotted; else the stroke of the box's oval.
-use Rattle.std.proofs.Common.{sym, ◌∙◌, rules}
+use Rattle.std.proofs.Common.{sym, ◌∙◌}
 use Rattle.words.specs.Ink.{inked}
 use Rattle.canvas.proofs.boxes.Chains.{did_same}
 use Rattle.ovals.proofs.fills.Sieves.{did_nothing}

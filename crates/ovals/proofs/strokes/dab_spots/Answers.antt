@@ -1,11 +1,9 @@
 -- What is left of the points leads to the same end.
-use Rattle.std.proofs.Common.{◌-◌, arith}
+use Rattle.std.proofs.Common.{arith}
 use mir.Facts.{Fits-widen}
-use Rattle.words.specs.Ink.{inked}
-use Rattle.canvas.specs.Walk.{work}
 use Rattle.pixels.proofs.bytes.Pixels.{sized-length}
 use Rattle.canvas.proofs.plot.Dabs.{dabbing_length}
-use Rattle.ovals.proofs.strokes.Stroking.{Spotting, spotting_start, spotting_room, spotting_turn, spotting_end}
+use Rattle.ovals.proofs.strokes.Stroking.{spotting_start, spotting_room, spotting_turn, spotting_end}
 use Rattle.ovals.proofs.strokes.dab_spots.Goals as goal
 
 pub loop-j-init : goal.loop-j-init

@@ -1,11 +1,8 @@
 -- What is left of the points leads to the same end.
-use Rattle.std.proofs.Common.{◌-◌, arith}
-use mir.Facts.{Fits-widen}
+use Rattle.std.proofs.Common.{◌-◌}
 use Rattle.words.specs.Ink.{inked}
 use Rattle.canvas.specs.Walk.{work}
-use Rattle.pixels.proofs.bytes.Pixels.{sized-length}
-use Rattle.canvas.proofs.plot.Dabs.{dabbing_length}
-use Rattle.ovals.proofs.strokes.Stroking.{Spotting, spotting_start, spotting_room, spotting_turn, spotting_end}
+use Rattle.ovals.proofs.strokes.Stroking.{Spotting}
 use Rattle.ovals.proofs.strokes.dab_spots.Given as goal
 
 abbrev pub invariant-loop-j : goal.invariant-loop-j

@@ -1,5 +1,5 @@
 -- One stroke after the other.
-use Rattle.std.proofs.Common.{ap, ◌∙◌, arith, rules}
+use Rattle.std.proofs.Common.{ap, ◌∙◌, arith}
 use lib.Ieee.{of_bits}
 use Rattle.words.specs.Ink.{inked}
 use Rattle.floats.specs.Degrees.{radians_of}

@@ -1,12 +1,12 @@
 -- What is left of the stroke leads to the same end.
-use Rattle.std.proofs.Common.{◌≡◌, suc, ◌+◌, ◌-◌, ◌≤◌, List, length, refl, ap, ◌∙◌, arith, rules}
+use Rattle.std.proofs.Common.{suc, ◌+◌, ◌≤◌, List, refl, ap, ◌∙◌, arith}
 use Rattle.curves.specs.Strokes.{Spot}
 use Rattle.words.specs.Ink.{inked}
 use Rattle.canvas.specs.Plot.{Point}
 use Rattle.canvas.specs.Walk.{lifted, work, dabs}
 use Rattle.pixels.proofs.bytes.Pixels.{sized-length}
 use Rattle.canvas.proofs.plot.Dabs.{dabbing_length}
-use Rattle.ovals.proofs.strokes.Stroking.{sixteen, all, Stroking, stroking_start, stroking_room, stroking_turn, stroking_end}
+use Rattle.ovals.proofs.strokes.Stroking.{sixteen, all, stroking_start, stroking_room, stroking_turn, stroking_end}
 use Rattle.ovals.proofs.strokes.stroke_steps.Goals as goal
 
 pub loop-i-init : goal.loop-i-init
@@ -38,14 +38,13 @@ dab_spots-t-requires c =
     let k = c.spots_from.ensures in
     record {
       sized = (sized-length (dabbing_length l.invariant.0.rest) c.requires.0, (c.requires.1.0, (c.requires.1.1.0, few)));
-      ps_len =
-          (
-            all p.o p.start p.sweep p.steps l.i (λ (t : Spot). lifted t.x) k.0,
-            (
-              all p.o p.start p.sweep p.steps l.i (λ (t : Spot). lifted t.y) k.1,
-              stroking_room p.o p.start p.sweep p.steps m.result c.requires.1.1.1.0 c.requires.1.1.1.1 few l.invariant.0,
-            ),
-          );
+      ps_len = (
+        all p.o p.start p.sweep p.steps l.i (λ (t : Spot). lifted t.x) k.0,
+        (
+          all p.o p.start p.sweep p.steps l.i (λ (t : Spot). lifted t.y) k.1,
+          stroking_room p.o p.start p.sweep p.steps m.result c.requires.1.1.1.0 c.requires.1.1.1.1 few l.invariant.0,
+        ),
+      );
     }
 
 pub overflow_add-i : goal.overflow_add-i
