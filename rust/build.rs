@@ -1,4 +1,4 @@
-//! Where `rt staticlib tuyrashka` writes the library.
+//! Where `gate/library tuyrashka` writes the library.
 
 use std::env::var;
 use std::path::Path;
@@ -12,6 +12,6 @@ fn main() {
     if var("CARGO_CFG_TARGET_ARCH").as_deref() != Ok("x86_64") || var("CARGO_CFG_TARGET_OS").as_deref() != Ok("linux") {
         println!("cargo::error=libtuyrashka.a is for x86-64 Linux");
     } else if !archive.exists() {
-        println!("cargo::error=there is no {}; run: rt staticlib tuyrashka", archive.display());
+        println!("cargo::error=there is no {}; run: gate/library tuyrashka", archive.display());
     }
 }

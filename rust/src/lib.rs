@@ -1,4 +1,4 @@
-//! The canvas of early mobile phones: a safe and thin wrapper over `libtuyrashka.a`, which `rt staticlib tuyrashka` writes.
+//! The canvas of early mobile phones: a safe and thin wrapper over `libtuyrashka.a`, which `gate/library tuyrashka` writes.
 //!
 //! A [`Canvas`] is bytes of the caller's, seen as pixels. Each call draws on it within a [`Clip`], and answers how many of its
 //! plots landed, or why it was refused. The library tests every value that it is given: none can do harm, and a call that is
