@@ -2,7 +2,6 @@
 use mathlib.Core.Path.{ap, ap₂, ◌∙◌}
 use Rattle.canvas.specs.Clip.{intersection}
 use Rattle.tuyrashka.specs.Exported.{words_of}
-use borrow.Author.Rules.{rules}
 use Rattle.tuyrashka.proofs.tuyrashka_clip_intersect.Goals as goal
 
 pub returns : goal.returns

@@ -1,7 +1,6 @@
 -- The call of the canvas, its answer read in records.
 use Rattle.canvas.specs.Call.{fill_rect}
 use Rattle.tuyrashka.proofs.Answers.{exports}
-use borrow.Author.Rules.{rules}
 use Rattle.tuyrashka.proofs.tuyrashka_fill_rect.Goals as goal
 
 pub returns : goal.returns

@@ -4,7 +4,6 @@ use Rattle.words.specs.Format.{format_of}
 use Rattle.canvas.specs.Look.{status_of, seen_of}
 use Rattle.tuyrashka.specs.Exported.{tells}
 use Rattle.tuyrashka.proofs.Answers.{shows}
-use borrow.Author.Rules.{rules}
 use Rattle.tuyrashka.proofs.tuyrashka_get_pixel.Goals as goal
 
 pub returns-in-Refused : goal.returns-in-Refused

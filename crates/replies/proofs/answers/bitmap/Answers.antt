@@ -3,7 +3,6 @@ use mathlib.Core.Path.{sym}
 use native.Mathlib.Omega.{arith}
 use lib.Seq.{length-take-le}
 use Rattle.replies.proofs.Answered.{bitmap_is}
-use borrow.Author.Rules.{rules}
 use Rattle.replies.proofs.answers.bitmap.Goals as goal
 
 pub slice_bounds-decode-end-2 : goal.slice_bounds-decode-end-2

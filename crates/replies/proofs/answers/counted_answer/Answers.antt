@@ -1,5 +1,4 @@
 -- The record of what was found.
-use borrow.Author.Rules.{rules}
 use Rattle.replies.proofs.answers.counted_answer.Goals as goal
 
 pub returns : goal.returns

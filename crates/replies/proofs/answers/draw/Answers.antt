@@ -1,6 +1,5 @@
 -- The colour and the clip are those of the line.
 use Rattle.replies.proofs.Answered.{drew-is}
-use borrow.Author.Rules.{rules}
 use Rattle.replies.proofs.answers.draw.Goals as goal
 
 pub returns : goal.returns

@@ -1,7 +1,6 @@
 -- The pixel at the place that the line names.
 use Rattle.replies.proofs.Ops.{reaches}
 use Rattle.replies.proofs.Answered.{looked-is}
-use borrow.Author.Rules.{rules}
 use Rattle.replies.proofs.answers.get.Goals as goal
 
 pub returns : goal.returns

@@ -1,7 +1,6 @@
 -- By the answer's two cases.
 use Rattle.res.specs.Search.{reads}
 use Rattle.replies.specs.Answers.{icon_of, start_of}
-use borrow.Author.Rules.{rules}
 use Rattle.replies.proofs.answers.icon.Goals as goal
 
 pub returns-in-Refused : goal.returns-in-Refused

@@ -1,7 +1,6 @@
 -- By the answer's two cases.
 use mathlib.Core.Path.{refl}
 use Rattle.lbmp.specs.Call.{reads}
-use borrow.Author.Rules.{rules}
 use Rattle.replies.proofs.answers.judged.Goals as goal
 
 pub returns-in-Refused : goal.returns-in-Refused

@@ -7,7 +7,6 @@ use Rattle.cases.specs.declared.answer.Answer.{Answer}
 use Rattle.cases.specs.Ops as op
 use Rattle.replies.specs.Answers.{response, respond_by}
 use Rattle.replies.proofs.Answered.{respond_is}
-use borrow.Author.Rules.{rules}
 use Rattle.replies.proofs.answers.respond.Goals as goal
 
 pub returns-in-6776180 : goal.returns-in-6776180

@@ -3,7 +3,6 @@ use mathlib.Core.Path.{refl}
 use Rattle.words.specs.Format.{format_of}
 use Rattle.canvas.specs.Look.{status_of, seen_of}
 use Rattle.replies.specs.Answers.{argb_of}
-use borrow.Author.Rules.{rules}
 use Rattle.replies.proofs.answers.seen.Goals as goal
 
 pub returns-in-Refused : goal.returns-in-Refused

@@ -9,7 +9,6 @@ use Rattle.replies.specs.Calls.{drawn_by}
 use mir.Syntax.{w32}
 use mir.Val.{to_z}
 use Rattle.replies.proofs.Ops.{named, reaches, made, put_is, line-is, rect-is, fill_is, invert-is}
-use borrow.Author.Rules.{rules}
 use Rattle.replies.proofs.calls.call.Goals as goal
 
 pub returns-in-7370100 : goal.returns-in-7370100

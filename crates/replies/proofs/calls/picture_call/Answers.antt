@@ -10,7 +10,6 @@ use Rattle.replies.specs.Calls.{picture_by}
 use mir.Syntax.{w32}
 use mir.Val.{to_z}
 use Rattle.replies.proofs.Ops.{named, reaches, made₆, copy_is, draw-is}
-use borrow.Author.Rules.{rules}
 use Rattle.replies.proofs.calls.picture_call.Goals as goal
 
 pub returns-in-1668247673 : goal.returns-in-1668247673

@@ -8,7 +8,6 @@ use Rattle.replies.specs.Calls.{round_by}
 use mir.Syntax.{w32}
 use mir.Val.{to_z}
 use Rattle.replies.proofs.Ops.{named, reaches, made₆, arc-is, pie-is, rrect-is, frrect-is}
-use borrow.Author.Rules.{rules}
 use Rattle.replies.proofs.calls.round_call.Goals as goal
 
 pub returns-in-6386275 : goal.returns-in-6386275

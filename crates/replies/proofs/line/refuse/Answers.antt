@@ -4,7 +4,6 @@ use lib.ListN.{length-set}
 use borrow.Author.Tests.{lt-ltb, le-ltb}
 use Rattle.cases.specs.Answer.{placed}
 use Rattle.replies.specs.Replies.{refused}
-use borrow.Author.Rules.{rules}
 use Rattle.replies.proofs.line.refuse.Goals as goal
 
 pub returns-then-out-lt144 : goal.returns-then-out-lt144

@@ -4,7 +4,6 @@ use native.Mathlib.Omega.{arith}
 use lib.Seq.{length-take-le}
 use Rattle.cases.proofs.Cases.{case_fits}
 use Rattle.replies.proofs.Replies.{replied-is}
-use borrow.Author.Rules.{rules}
 use Rattle.replies.proofs.line.reply.Goals as goal
 
 pub slice_bounds-read-end : goal.slice_bounds-read-end

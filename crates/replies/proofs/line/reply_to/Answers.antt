@@ -2,7 +2,6 @@
 use mathlib.Core.Path.{sym}
 use lib.Seq.{length-take-le}
 use Rattle.replies.proofs.Replies.{refused-is, answered-is}
-use borrow.Author.Rules.{rules}
 use Rattle.replies.proofs.line.reply_to.Goals as goal
 
 pub returns-then-c-eq0 : goal.returns-then-c-eq0

@@ -1,7 +1,6 @@
 -- The record of its numbers.
 use Rattle.replies.specs.Numbers.{clip_at}
 use Rattle.replies.proofs.Ops.{reaches}
-use borrow.Author.Rules.{rules}
 use Rattle.replies.proofs.numbers.clip.Goals as goal
 
 pub returns : goal.returns

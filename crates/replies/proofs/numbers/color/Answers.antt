@@ -1,6 +1,5 @@
 -- The record of its bytes.
 use Rattle.replies.specs.Numbers.{color_at}
-use borrow.Author.Rules.{rules}
 use Rattle.replies.proofs.numbers.color.Goals as goal
 
 pub returns : goal.returns

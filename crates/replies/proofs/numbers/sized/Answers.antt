@@ -1,6 +1,5 @@
 -- The record of its numbers.
 use Rattle.replies.specs.Numbers.{canvas_at}
-use borrow.Author.Rules.{rules}
 use Rattle.replies.proofs.numbers.sized.Goals as goal
 
 pub returns : goal.returns

@@ -1,7 +1,6 @@
 -- The call of the canvas, its answer read in records.
 use Rattle.images.specs.Areas.{copy_area}
 use Rattle.tuyrashka.proofs.Answers.{answers, counts}
-use borrow.Author.Rules.{rules}
 use Rattle.tuyrashka.proofs.areas.tuyrashka_copy_area.Goals as goal
 
 pub returns : goal.returns

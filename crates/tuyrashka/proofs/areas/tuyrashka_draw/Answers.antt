@@ -2,7 +2,6 @@
 use Rattle.canvas.specs.Call.{draw, call}
 use Rattle.tuyrashka.specs.Exported.{source_of}
 use Rattle.tuyrashka.proofs.Answers.{answers}
-use borrow.Author.Rules.{rules}
 use Rattle.tuyrashka.proofs.areas.tuyrashka_draw.Goals as goal
 
 pub returns : goal.returns

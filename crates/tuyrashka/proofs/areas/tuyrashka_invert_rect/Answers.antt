@@ -1,7 +1,6 @@
 -- The call of the canvas, its answer read in records.
 use Rattle.canvas.specs.Call.{invert_rect, call}
 use Rattle.tuyrashka.proofs.Answers.{answers}
-use borrow.Author.Rules.{rules}
 use Rattle.tuyrashka.proofs.areas.tuyrashka_invert_rect.Goals as goal
 
 pub returns : goal.returns

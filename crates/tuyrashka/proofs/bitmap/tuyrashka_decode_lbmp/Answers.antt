@@ -1,6 +1,5 @@
 -- By the answer's two cases.
 use Rattle.tuyrashka.proofs.Bitmaps.{told-refused, told_sound}
-use borrow.Author.Rules.{rules}
 use Rattle.tuyrashka.proofs.bitmap.tuyrashka_decode_lbmp.Goals as goal
 
 pub returns-in-Refused : goal.returns-in-Refused

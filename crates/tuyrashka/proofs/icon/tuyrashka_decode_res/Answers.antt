@@ -1,6 +1,5 @@
 -- By the answer's two cases.
 use Rattle.tuyrashka.proofs.Icons.{told-refused, told_here}
-use borrow.Author.Rules.{rules}
 use Rattle.tuyrashka.proofs.icon.tuyrashka_decode_res.Goals as goal
 
 pub returns-in-Refused : goal.returns-in-Refused

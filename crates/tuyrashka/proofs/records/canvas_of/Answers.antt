@@ -1,7 +1,6 @@
 -- Field by field.
 use mathlib.Core.Path.{refl}
 use Rattle.tuyrashka.specs.Exported.{canvas_of}
-use borrow.Author.Rules.{rules}
 use Rattle.tuyrashka.proofs.records.canvas_of.Goals as goal
 
 pub returns : goal.returns

@@ -3,7 +3,6 @@ use mathlib.Core.Path.{refl}
 use mir.Syntax.{w32}
 use mir.ValLaws.{to_z-of_z}
 use Rattle.tuyrashka.specs.Exported.{clip_of}
-use borrow.Author.Rules.{rules}
 use Rattle.tuyrashka.proofs.records.clip_of.Goals as goal
 
 pub returns : goal.returns

@@ -1,6 +1,5 @@
 -- A word of the format ARGB.
 use Rattle.words.specs.Format.{format_of}
-use borrow.Author.Rules.{rules}
 use Rattle.tuyrashka.proofs.records.color_of.Goals as goal
 
 pub returns : goal.returns

@@ -3,7 +3,6 @@ use mathlib.Core.Path.{◌≡◌, refl, ap, ◌∙◌}
 use mir.Syntax.{w32}
 use mir.ValLaws.{to_z-of_z}
 use Rattle.tuyrashka.specs.Exported.{bits_of, words_of}
-use borrow.Author.Rules.{rules}
 use Rattle.tuyrashka.proofs.records.give_clip.Goals as goal
 
 pub returns : goal.returns

@@ -1,7 +1,6 @@
 -- By the answer's two cases.
 use mathlib.Core.Path.{refl}
 use Rattle.canvas.specs.Call.{status_of, count_of}
-use borrow.Author.Rules.{rules}
 use Rattle.tuyrashka.proofs.records.give_drawn.Goals as goal
 
 pub returns-in-Refused : goal.returns-in-Refused

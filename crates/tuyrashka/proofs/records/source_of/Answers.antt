@@ -1,7 +1,6 @@
 -- Its canvas, with the switch off.
 use mathlib.Core.Path.{refl}
 use Rattle.tuyrashka.specs.Exported.{source_of}
-use borrow.Author.Rules.{rules}
 use Rattle.tuyrashka.proofs.records.source_of.Goals as goal
 
 pub returns : goal.returns

@@ -1,7 +1,6 @@
 -- The call of the canvas, its answer read in records.
 use Rattle.ovals.specs.Call.{fill_arc}
 use Rattle.tuyrashka.proofs.Answers.{exports}
-use borrow.Author.Rules.{rules}
 use Rattle.tuyrashka.proofs.rounds.tuyrashka_fill_arc.Goals as goal
 
 pub returns : goal.returns
