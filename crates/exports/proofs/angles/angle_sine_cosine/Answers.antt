@@ -1,5 +1,4 @@
 -- `angle_sine_cosine` meets its contract: the pair's two fields are stored. Assumes nothing.
-use borrow.Author.Rules.{rules}
 use mathlib.Core.Path.{ap}
 use Rattle.angle.specs.declared.sine.SineCosine.{SineCosine}
 use Rattle.angle.specs.Sine.{sine_cosine_of}

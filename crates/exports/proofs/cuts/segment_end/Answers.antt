@@ -1,7 +1,6 @@
 -- By number, from what is left.
 use mathlib.Core.Path.{refl}
 use Rattle.exports.proofs.cuts.Picks.{end_is, first-x, first-y, second_x, second_y}
-use borrow.Author.Rules.{rules}
 use Rattle.exports.proofs.cuts.segment_end.Goals as goal
 
 pub returns-in-Nothing : goal.returns-in-Nothing

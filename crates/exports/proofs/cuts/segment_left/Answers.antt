@@ -1,7 +1,6 @@
 -- Nothing, or something.
 use mathlib.Core.Path.{refl}
 use Rattle.exports.proofs.cuts.Picks.{left_is}
-use borrow.Author.Rules.{rules}
 use Rattle.exports.proofs.cuts.segment_left.Goals as goal
 
 pub returns-in-Nothing : goal.returns-in-Nothing
