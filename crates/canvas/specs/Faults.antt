@@ -17,7 +17,7 @@ number Row = 18
 number Rule = 23
 
 -- That there is no fault, or which.
-abbrev pub Verdict : Type 1
+abbrev pub Verdict : Type 0
 Verdict = Result (Unit {0}) Refusal
 
 -- The fault, where the test holds.
