@@ -20,3 +20,12 @@ counted v k b e f = rw e (rw f refl)
 pub refused : (v : Canvas) (k : Call) (b : List ℕ) (r : Refusal) → or_else (verdict v (length b)) (fault_of k) ≡ Err r → call v k b ≡ outcome (number r) 0 b
 unfolding drawing
 refused v k b r e = rw e refl
+
+-- the canvas's fault comes first, and the call's own where there is none
+pub canvas_refused : (v : Canvas) (k : Call) (b : List ℕ) (r : Refusal) → verdict v (length b) ≡ Err r → call v k b ≡ outcome (number r) 0 b
+unfolding drawing or_else
+canvas_refused v k b r e = rw e refl
+
+pub own_refused : (v : Canvas) (k : Call) (b : List ℕ) (r : Refusal) → verdict v (length b) ≡ Ok tt → fault_of k ≡ Err r → call v k b ≡ outcome (number r) 0 b
+unfolding drawing or_else
+own_refused v k b r e f = rw e (rw f refl)

@@ -11,12 +11,7 @@ use pixels::Canvas;
 use words::Color;
 
 // The color of a pixel of the canvas.
-pub fn get_pixel(
-    canvas: Canvas,
-    bytes: &[u8],
-    x: i32,
-    y: i32,
-) -> Result<Option<Color>, Refusal>
+pub fn get_pixel(canvas: Canvas, bytes: &[u8], x: i32, y: i32) -> Result<Option<Color>, Refusal>
     ensures { reads result ≡ pixel_at canvas bytes.now x y }
 {
     judge(canvas, bytes.len())?;

@@ -1,4 +1,4 @@
--- The first of two faults; and a canvas with none is sized.
+-- The first fault of a canvas by its tests; and a canvas with none is sized.
 use Rattle.std.proofs.Common.{◌≡◌, ℕ, ◌≤◌, Bool, true, false, not, ◌||◌, eqb, ltb, List, length, refl, arith, ltb-false, le-ltb, eqb-true, Ok, Err}
 use borrow.Author.Tests.{not-false}
 use Rattle.words.proofs.Either.{neither}
@@ -8,14 +8,6 @@ use Rattle.canvas.specs.declared.Refusal.TheVariants.{Format, Size, Length, Row,
 use Rattle.pixels.specs.Bytes.{extent, folded, Sized}
 use Rattle.pixels.proofs.bytes.Places.{folded-is}
 use Rattle.canvas.specs.Faults.{Verdict, fault, format_fault, rule_fault, size_fault, row_fault, length_fault, or_else, first, verdict}
-
-pub or_faulty : (f d : Verdict) (r : Refusal) → f ≡ Err r → f ≡ or_else f d
-unfolding or_else
-or_faulty f d r e = rw e refl
-
-pub or_sound : (f d : Verdict) → f ≡ Ok tt → d ≡ or_else f d
-unfolding or_else
-or_sound f d e = rw e refl
 
 -- ---- the first fault by its tests
 

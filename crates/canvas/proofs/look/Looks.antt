@@ -1,5 +1,5 @@
 -- What a lifted point off the canvas and one on it read as.
-use Rattle.std.proofs.Common.{◌≡◌, ℕ, ◌-◌, true, false, List, length, ℤ, refl, w32, SFits, to_z, of_z, Option, Some, None, Ok, Err}
+use Rattle.std.proofs.Common.{◌≡◌, ℕ, ◌-◌, true, false, List, length, ℤ, refl, w32, SFits, to_z, of_z, Option, Some, None, Result, Ok, Err, IsErrAnd}
 use Rattle.words.specs.declared.Color.{Color}
 use Rattle.words.specs.Word.{to_color}
 use Rattle.pixels.specs.declared.Canvas.{Canvas}
@@ -24,9 +24,10 @@ color_there v b p q w c o ew ec =
     rw (o, lowered_pos p l.left, lowered_pos q l.top, ← ew, ← ec) refl
 
 module _ (v : Canvas) (b : List ℕ) (x y : ℤ) where
-  pub reads_refusal : (r : Refusal) → Err r ≡ verdict v (length b) → reads (Err r) ≡ pixel_at v b x y
+  pub reads_refusal : (r : Refusal) (p : Result (Option Color) Refusal) → IsErrAnd p (λ e. e ≡ r) → Err r ≡ verdict v (length b) → reads p ≡ pixel_at v b x y
   unfolding status_of seen_of pixel_at
-  reads_refusal r h = rw (← h) refl
+  reads_refusal r (Ok c) k h = absurd k
+  reads_refusal r (Err e) k h = rw (← h, k) refl
 
   pub reads_sound : (t : Option Color) (p q : ℕ) → Ok tt ≡ verdict v (length b) → SFits w32 x → SFits w32 y
       → p ≡ lifted (to_z w32 (of_z w32 x)) → q ≡ lifted (to_z w32 (of_z w32 y))
