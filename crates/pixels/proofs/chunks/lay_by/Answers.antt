@@ -1,7 +1,7 @@
 -- What is left of the words leads to the same end as all of them.
 use native.Mathlib.Omega.{arith}
 use mathlib.Core.Path.{refl, sym, ap}
-use Prim.Native.Nat.{ℕ, ◌+◌, ◌-◌, ◌*◌}
+use Prim.Native.Nat.{ℕ, ◌+◌, ◌*◌}
 use native.Mathlib.Nat.{add-zero, add_assoc}
 use lib.ListN.{length}
 use Rattle.pixels.specs.Rows.{mark, laid}
@@ -34,12 +34,11 @@ loop-i-preserved g c =
     let a = c.args in
     let l = c.loop-i in
     let p₀ = c.requires in
-    let here : a.x + l.i - a.x ≡ l.i = omega arith in
     rw (← add_assoc a.x l.i 1)
     (rest-turn a.canvas (mark (laid a.ws.now a.x) a.y) (a.x + l.i) (a.x + length a.ws.now) l.invariant (omega (arith, c.loop-i-test.true))
     (lay_one a.canvas l.b a.y a.x (a.x + l.i) _ g.row.N a.ws.now (rest-sized l.invariant p₀.0)
     (record { across = omega (arith, c.loop-i-test.true, p₀.1.0); down = p₀.1.1.0 })
-    (ap (λ (k : ℕ). k * g.row.N) c.index.ensures.0) p₀.1.1.1 _ _ (rw here refl) c.put.ensures))
+    (ap (λ (k : ℕ). k * g.row.N) c.index.ensures.0) p₀.1.1.1 _ _ (rw (sub-start a.x l.i) refl) c.put.ensures))
 
 pub returns : goal.returns
 returns g c =
