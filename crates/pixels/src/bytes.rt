@@ -25,7 +25,8 @@ pub(crate) fn put<const N: usize>(b: &mut [u8], o: usize, w: u32)
     requires fits { N ≤ 4 }
     ensures { b.new ≡ store (cells N o) b.old w }
 {
-    b[o..o + N].copy_from_slice(&w.to_le_bytes()[..N]);
+    let bytes = w.to_le_bytes();
+    b[o..o + N].copy_from_slice(&bytes[..N]);
 }
 
 // The word at an offset, inked.
@@ -61,12 +62,12 @@ pub(crate) fn index(canvas: Canvas, x: usize, y: usize) -> usize
     y * w + x
 }
 
-// Where a pixel's bytes start.
-fn offset(canvas: Canvas, x: usize, y: usize) -> usize
-    requires { (On canvas x y) × (Bounded canvas) }
-    ensures { result ≡ (y * pitch canvas + x) * size canvas }
+// The word of a pixel of N bytes.
+fn load_by<const N: usize>(canvas: Canvas, b: &[u8], x: usize, y: usize) -> u32
+    requires { (Sized canvas b.now) × ((On canvas x y) × (N ≡ size canvas)) }
+    ensures { (result ≡ load_at canvas b.now x y) × (result < range (form canvas)) }
 {
-    index(canvas, x, y) * words::bytes_per_pixel(canvas.format)
+    word::<N>(b, index(canvas, x, y) * N)
 }
 
 // The word of a pixel.
@@ -74,15 +75,14 @@ pub fn load_at(canvas: Canvas, b: &[u8], x: usize, y: usize) -> u32
     requires { (Sized canvas b.now) × (On canvas x y) }
     ensures { (result ≡ load_at canvas b.now x y) × (result < range (form canvas)) }
 {
-    let o = offset(canvas, x, y);
     match canvas.format {
-        0 => word::<1>(b, o),
-        1 => word::<2>(b, o),
-        _ => word::<4>(b, o),
+        0 => load_by::<1>(canvas, b, x, y),
+        1 => load_by::<2>(canvas, b, x, y),
+        _ => load_by::<4>(canvas, b, x, y),
     }
 }
 
-// The word of a pixel, inked, by the bytes of a word.
+// The word of a pixel of N bytes, inked.
 pub fn touch_by<const N: usize>(canvas: Canvas, b: &mut [u8], x: usize, y: usize, ink: Ink)
     requires { (Sized canvas b.old) × ((On canvas x y) × (N ≡ size canvas)) }
     ensures { b.new ≡ touch canvas b.old (hit (inked ink) x y) }
@@ -90,6 +90,7 @@ pub fn touch_by<const N: usize>(canvas: Canvas, b: &mut [u8], x: usize, y: usize
     touch::<N>(b, index(canvas, x, y) * N, ink);
 }
 
+// The word of a pixel, inked.
 pub fn touch_at(canvas: Canvas, b: &mut [u8], x: usize, y: usize, ink: Ink)
     requires { (Sized canvas b.old) × (On canvas x y) }
     ensures { b.new ≡ touch canvas b.old (hit (inked ink) x y) }

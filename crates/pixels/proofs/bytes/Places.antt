@@ -119,9 +119,9 @@ index_le v x y o h =
     let k : y * pitch v + x < v.height * pitch v = digits_lt o.down (in_row o) in
     omega (arith, area-le (pitch v) v.height (rw (pitch-is v h.rows) h.tails) h.high)
 
-pub scaled-le : (v : Canvas) (k s : ℕ) → k ≤ 1073676289 → s ≡ size v → k * s ≤ 4294705156
+pub scaled-le : (v : Canvas) (k s : ℕ) → k ≤ 1073676289 → size v ≡ s → k * s ≤ 4294705156
 scaled-le v k s h e =
-    let q : s ≤ 4 = rw e (bytes_le (form v)) in
+    let q : s ≤ 4 = word_le v s e in
     le_trans (mul-le-mul_right s h) (le_trans (mul-le-mul_left 1073676289 q) (omega arith))
 
 pub row_bytes_le : (v : Canvas) (s n m : ℕ) → s ≡ size v → n ≤ m → s * n ≤ 4 * m
@@ -139,19 +139,19 @@ folded-is v h =
     let l : size v * v.row < 4294967296 = omega (arith, row_bytes_le v (size v) v.row 32767 refl h.tails) in
     rw (mod-eq_of_lt l, pitch-is v h.rows) (mul_right_comm (size v) v.row v.height ∙ rw (mul_comm (size v) v.height) (mul_right_comm v.height (size v) v.row))
 
--- ---- the pixel at an offset, of s bytes
+-- ---- the pixel of s bytes whose number in the rows is i
 
-module _ (v : Canvas) (b : List ℕ) (x y o : ℕ) (r : Sized v b) (p : On v x y) (e : o ≡ (y * pitch v + x) * size v) (s : ℕ) (z : size v ≡ s) where
-  pub in_place : o + s ≤ length b
+module _ (v : Canvas) (b : List ℕ) (x y i s : ℕ) (r : Sized v b) (p : On v x y) (e : i ≡ y * pitch v + x) (z : size v ≡ s) where
+  pub in_place : i * s + s ≤ length b
   in_place = rw (e, ← z, r.long) (pixel_fits v x y p)
 
-  pub read_is : (w : ℕ) → w ≡ load (cells s o) b → w ≡ load_at v b x y
+  pub read_is : (w : ℕ) → w ≡ load (cells s (i * s)) b → w ≡ load_at v b x y
   unfolding load_at pixel
   read_is w h = h ∙ rw (e, ← z) refl
 
   pub read-lt : (w : ℕ) → w < 256 ^ s → w < range (form v)
   read-lt w h = rw (range-bytes (form v), z) h
 
-  pub touch_is : (b' : List ℕ) (f : ℕ → ℕ) (w w' : ℕ) → w ≡ load (cells s o) b → w' ≡ f w → b' ≡ store (cells s o) b w' → b' ≡ touch v b (hit f x y)
+  pub touch_is : (b' : List ℕ) (f : ℕ → ℕ) (w w' : ℕ) → w ≡ load (cells s (i * s)) b → w' ≡ f w → b' ≡ store (cells s (i * s)) b w' → b' ≡ touch v b (hit f x y)
   unfolding touch load_at store_at pixel
   touch_is b' f w w' h k l = l ∙ rw (k, h, e, ← z) refl
