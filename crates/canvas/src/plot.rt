@@ -31,20 +31,18 @@ fn is_covered(s: Span, p: u64) -> bool
     past < (s.to - s.from) as u64
 }
 
-// A plot at a lifted point that can land on some columns and rows alone. The bytes of a word, n, are a literal in each
-// caller, and the choice by them falls away where the compiler takes the caller's loop into its arms.
-pub fn dab(
+// A plot at a lifted point that can land on some columns and rows alone, of a word of N bytes.
+pub fn dab<const N: usize>(
     canvas: Canvas,
     b: &mut [u8],
     xs: Span,
     ys: Span,
-    n: usize,
     p: u64,
     q: u64,
     ink: Ink,
     t: Tally,
 ) -> Tally
-    requires { (Sized canvas b.old) × ((Fields canvas xs ys) × ((n ≡ size canvas) × (Fits (plus t 1)))) }
+    requires { (Sized canvas b.old) × ((Fields canvas xs ys) × ((N ≡ size canvas) × (Fits (plus t 1)))) }
     ensures { work b.new result ≡ dabbed canvas xs ys (inked ink) (at (lowered p) (lowered q)) (work b.old t) }
 {
     if !is_covered(xs, p) {
@@ -55,7 +53,7 @@ pub fn dab(
     }
     let x = (p - 2147483648) as usize;
     let y = (q - 2147483648) as usize;
-    pixels::bytes::touch_by(canvas, b, n, x, y, ink);
+    pixels::bytes::touch_by::<N>(canvas, b, x, y, ink);
     landed_more(t, 1)
 }
 

@@ -6,7 +6,7 @@ ghost use Rattle.pixels.specs.Hits.{paint};
 ghost use Rattle.pixels.specs.Rows.{run, flat, marks, field};
 
 use crate::Canvas;
-use crate::bytes::{index, touch1, touch2, touch4};
+use crate::bytes::{index, touch};
 use words::Ink;
 
 // Columns or rows of the canvas, from one up to but not including another.
@@ -16,36 +16,12 @@ pub struct Span {
     pub to: usize,
 }
 
-fn row1(canvas: Canvas, b: &mut [u8], y: usize, x0: usize, x1: usize, ink: Ink)
-    requires { (Sized canvas b.old) × ((x1 ≤ canvas.width) × ((y < canvas.height) × (size canvas ≡ 1))) }
+fn row_by<const N: usize>(canvas: Canvas, b: &mut [u8], y: usize, x0: usize, x1: usize, ink: Ink)
+    requires { (Sized canvas b.old) × ((x1 ≤ canvas.width) × ((y < canvas.height) × (size canvas ≡ N))) }
     ensures { b.new ≡ paint canvas (marks (flat (inked ink)) (run x0 (x1 - x0)) y) b.old }
 {
-    let mut x = x0;
-    while x < x1 {
-        touch1(b, index(canvas, x, y), ink);
-        x = x + 1;
-    }
-}
-
-fn row2(canvas: Canvas, b: &mut [u8], y: usize, x0: usize, x1: usize, ink: Ink)
-    requires { (Sized canvas b.old) × ((x1 ≤ canvas.width) × ((y < canvas.height) × (size canvas ≡ 2))) }
-    ensures { b.new ≡ paint canvas (marks (flat (inked ink)) (run x0 (x1 - x0)) y) b.old }
-{
-    let mut x = x0;
-    while x < x1 {
-        touch2(b, index(canvas, x, y) * 2, ink);
-        x = x + 1;
-    }
-}
-
-fn row4(canvas: Canvas, b: &mut [u8], y: usize, x0: usize, x1: usize, ink: Ink)
-    requires { (Sized canvas b.old) × ((x1 ≤ canvas.width) × ((y < canvas.height) × (size canvas ≡ 4))) }
-    ensures { b.new ≡ paint canvas (marks (flat (inked ink)) (run x0 (x1 - x0)) y) b.old }
-{
-    let mut x = x0;
-    while x < x1 {
-        touch4(b, index(canvas, x, y) * 4, ink);
-        x = x + 1;
+    for x in x0..x1 {
+        touch::<N>(b, index(canvas, x, y) * N, ink);
     }
 }
 
@@ -54,11 +30,10 @@ pub fn ink_row(canvas: Canvas, b: &mut [u8], y: usize, x0: usize, x1: usize, ink
     requires { (Sized canvas b.old) × ((x1 ≤ canvas.width) × (y < canvas.height)) }
     ensures { b.new ≡ paint canvas (marks (flat (inked ink)) (run x0 (x1 - x0)) y) b.old }
 {
-    let f = canvas.format;
-    match f {
-        0 => row1(canvas, b, y, x0, x1, ink),
-        1 => row2(canvas, b, y, x0, x1, ink),
-        _ => row4(canvas, b, y, x0, x1, ink),
+    match canvas.format {
+        0 => row_by::<1>(canvas, b, y, x0, x1, ink),
+        1 => row_by::<2>(canvas, b, y, x0, x1, ink),
+        _ => row_by::<4>(canvas, b, y, x0, x1, ink),
     }
 }
 
@@ -67,12 +42,7 @@ pub fn ink_box(canvas: Canvas, b: &mut [u8], xs: Span, ys: Span, ink: Ink)
     requires { (Sized canvas b.old) × ((xs.to ≤ canvas.width) × (ys.to ≤ canvas.height)) }
     ensures { b.new ≡ paint canvas (field (flat (inked ink)) (run xs.from (xs.to - xs.from)) (run ys.from (ys.to - ys.from))) b.old }
 {
-    let x0 = xs.from;
-    let x1 = xs.to;
-    let y1 = ys.to;
-    let mut y = ys.from;
-    while y < y1 {
-        ink_row(canvas, b, y, x0, x1, ink);
-        y = y + 1;
+    for y in ys.from..ys.to {
+        ink_row(canvas, b, y, xs.from, xs.to, ink);
     }
 }

@@ -11,7 +11,7 @@ use Rattle.pixels.specs.declared.Canvas.{Canvas}
 use Rattle.pixels.specs.Bytes.{pitch, load, store, cells, size, load_at, On, Sized}
 use Rattle.pixels.specs.Hits.{paint}
 use Rattle.pixels.specs.Rows.{mark, laid, words_of}
-use Rattle.pixels.proofs.bytes.Places.{in_place, read_is, touch_is}
+use Rattle.pixels.proofs.bytes.Places.{read_is, touch_is}
 
 -- the first k words are taken
 pub record Filled (v : Canvas) (b : List ℕ) (y x k : ℕ) (ws ws₀ : List ℕ) : Type 0 where
@@ -51,28 +51,22 @@ words-taken v b y x n {ws} e = record {
 }
 
 -- one word more, read at its offset
-module _ (v : Canvas) (b : List ℕ) (y x k o s : ℕ) (ws ws₀ : List ℕ) (r : Sized v b) (p : On v (x + k) y) (e : o ≡ (y * pitch v + (x + k)) * s) (z : size v ≡ s) where
-  pub word-place : o + s ≤ length b
-  word-place = in_place v b (x + k) y o r p (rw z e) s z
-
-  pub filled_more : Filled v b y x k ws ws₀ → k < length ws₀ → (w : ℕ) → w ≡ load (cells s o) b → Filled v b y x (k + 1) (set ws k w) ws₀
+module _ (v : Canvas) (b : List ℕ) (y x k i s : ℕ) (ws ws₀ : List ℕ) (r : Sized v b) (p : On v (x + k) y) (e : i ≡ y * pitch v + (x + k)) (z : size v ≡ s) where
+  pub filled_more : Filled v b y x k ws ws₀ → k < length ws₀ → (w : ℕ) → w ≡ load (cells s (i * s)) b → Filled v b y x (k + 1) (set ws k w) ws₀
   filled_more f l w h = record { word = word; long = length-set ws k w ∙ f.long }
     where
-      at : (i : ℕ) → i < k + 1 → Dec (i ≡ k) → get_or (set ws k w) i 0 ≡ load_at v b (x + i) y
-      at i m (yes q) = rw q (get_or-set_same ws k w 0 (omega (arith, f.long)) ∙ read_is v b (x + k) y o r p (rw z e) s z w h)
-      at i m (no n) = get_or-set_other ws k i w 0 n ∙ f.word i (omega (arith, n))
+      at : (j : ℕ) → j < k + 1 → Dec (j ≡ k) → get_or (set ws k w) j 0 ≡ load_at v b (x + j) y
+      at j m (yes q) = rw q (get_or-set_same ws k w 0 (omega (arith, f.long)) ∙ read_is v b (x + k) y i s r p e z w h)
+      at j m (no n) = get_or-set_other ws k j w 0 n ∙ f.word j (omega (arith, n))
 
-      word : (i : ℕ) → i < k + 1 → get_or (set ws k w) i 0 ≡ load_at v b (x + i) y
-      word i m = at i m (ℕ_discrete i k)
+      word : (j : ℕ) → j < k + 1 → get_or (set ws k w) j 0 ≡ load_at v b (x + j) y
+      word j m = at j m (ℕ_discrete j k)
 
 pub sub-start : (x n : ℕ) → x + n - x ≡ n
 sub-start x n = omega arith
 
 -- one word laid at its offset
-module _ (v : Canvas) (b : List ℕ) (y x k o s : ℕ) (ws : List ℕ) (r : Sized v b) (p : On v k y) (e : o ≡ (y * pitch v + k) * s) (z : size v ≡ s) where
-  pub lay_place : o + s ≤ length b
-  lay_place = in_place v b k y o r p (rw z e) s z
-
-  pub lay_one : (w : ℕ) (b' : List ℕ) → w ≡ get_or ws (k - x) 0 → b' ≡ store (cells s o) b w → b' ≡ paint v (mark (laid ws x) y k) b
+module _ (v : Canvas) (b : List ℕ) (y x k i s : ℕ) (ws : List ℕ) (r : Sized v b) (p : On v k y) (e : i ≡ y * pitch v + k) (z : size v ≡ s) where
+  pub lay_one : (w : ℕ) (b' : List ℕ) → w ≡ get_or ws (k - x) 0 → b' ≡ store (cells s (i * s)) b w → b' ≡ paint v (mark (laid ws x) y k) b
   unfolding mark paint
-  lay_one w b' g h = touch_is v b k y o r p (rw z e) s z b' (laid ws x k y) _ w refl g h
+  lay_one w b' g h = touch_is v b k y i s r p e z b' (laid ws x k y) _ w refl g h

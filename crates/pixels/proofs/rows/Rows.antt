@@ -11,7 +11,7 @@ use Rattle.pixels.specs.Bytes.{pitch, size, On, Sized}
 use Rattle.pixels.specs.Hits.{Hit, paint}
 use Rattle.pixels.specs.Rows.{run, mark, marks, field, flat, Touched}
 use Rattle.pixels.proofs.bytes.Pixels.{sized-length}
-use Rattle.pixels.proofs.bytes.Places.{in_place, touch_is}
+use Rattle.pixels.proofs.bytes.Places.{touch_is}
 use Rattle.pixels.proofs.Hits.{paint-length, paint-append}
 
 -- ---- the invariant: what is left leads to the same end as all of it from the start
@@ -49,13 +49,10 @@ module _ (v : Canvas) (g : ℕ → List Hit) (x x1 : ℕ) {hs₀ : List Hit} {b 
 
 -- ---- one pixel of a row, of s bytes
 
-module _ (v : Canvas) (b : List ℕ) (x y o s : ℕ) (r : Sized v b) (p : On v x y) (e : o ≡ (y * pitch v + x) * s) (z : size v ≡ s) where
-  pub row_place : o + s ≤ length b
-  row_place = in_place v b x y o r p (rw z e) s z
-
-  pub row_touch : (f : ℕ → ℕ) (b' : List ℕ) → Touched s o f b b' → b' ≡ paint v (mark (flat f) y x) b
+module _ (v : Canvas) (b : List ℕ) (x y i s : ℕ) (r : Sized v b) (p : On v x y) (e : i ≡ y * pitch v + x) (z : size v ≡ s) where
+  pub row_touch : (f : ℕ → ℕ) (b' : List ℕ) → Touched s (i * s) f b b' → b' ≡ paint v (mark (flat f) y x) b
   unfolding mark paint
-  row_touch f b' t = touch_is v b x y o r p (rw z e) s z b' f _ _ refl refl t.same
+  row_touch f b' t = touch_is v b x y i s r p e z b' f _ _ refl refl t.same
 
 -- ---- what each number gives, alike for each
 

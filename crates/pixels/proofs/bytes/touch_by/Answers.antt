@@ -1,23 +1,24 @@
--- By the bytes of a word, the word inked at the offset is the pixel's.
-use mathlib.Core.Path.{refl, sym, ◌∙◌}
+-- The word inked at the pixel's number times its bytes is the pixel's.
+use native.Mathlib.Omega.{arith}
+use mathlib.Core.Path.{refl, sym}
 use Rattle.words.specs.Ink.{inked}
-use Rattle.pixels.proofs.bytes.Places.{sized_four, scaled, unscaled, in_place, touch_is}
+use Rattle.pixels.proofs.bytes.Places.{word_le, scaled-le, in_place, touch_is}
 use Rattle.pixels.proofs.bytes.touch_by.Goals as goal
 
-pub touch1-requires : goal.touch1-requires
-touch1-requires c = in_place c.args.canvas c.args.b.now c.args.x c.args.y _ c.requires.0 c.requires.1.0 (unscaled c.args.canvas _ _ c.index-o.ensures.0 (sym c.requires.1.1 ∙ c.in-1.is)) 1 (sym c.requires.1.1 ∙ c.in-1.is)
+pub overflow_mul-index : goal.overflow_mul-index
+overflow_mul-index g c = record { fits = omega (arith, scaled-le c.args.canvas _ g.row.N c.index.ensures.1 (sym c.requires.1.1)) }
 
-pub touch2-requires : goal.touch2-requires
-touch2-requires c = in_place c.args.canvas c.args.b.now c.args.x c.args.y _ c.requires.0 c.requires.1.0 (scaled c.args.canvas _ _ 2 c.index-o.ensures.0 (sym c.requires.1.1 ∙ c.in-2.is)) 2 (sym c.requires.1.1 ∙ c.in-2.is)
+pub touch-requires-clause-room : goal.touch-requires-clause-room
+touch-requires-clause-room g c =
+    let a = c.args in
+    let p₀ = c.requires in
+    in_place a.canvas a.b.now a.x a.y _ g.row.N p₀.0 p₀.1.0 c.index.ensures.0 (sym p₀.1.1)
 
-pub touch4-requires : goal.touch4-requires
-touch4-requires c = in_place c.args.canvas c.args.b.now c.args.x c.args.y _ c.requires.0 c.requires.1.0 (scaled c.args.canvas _ _ 4 c.index-o.ensures.0 (sized_four c.args.canvas c.args.n c.requires.0.known c.requires.1.1 c.in_default.in_default-own.rest.0.1 c.in_default.in_default-own.rest.1)) 4 (sized_four c.args.canvas c.args.n c.requires.0.known c.requires.1.1 c.in_default.in_default-own.rest.0.1 c.in_default.in_default-own.rest.1)
+pub touch-requires-clause-fits : goal.touch-requires-clause-fits
+touch-requires-clause-fits g c = word_le c.args.canvas g.row.N (sym c.requires.1.1)
 
-pub returns-in-1 : goal.returns-in-1
-returns-in-1 c = touch_is c.args.canvas c.args.b.now c.args.x c.args.y _ c.requires.0 c.requires.1.0 (unscaled c.args.canvas _ _ c.index-o.ensures.0 (sym c.requires.1.1 ∙ c.in-1.is)) 1 (sym c.requires.1.1 ∙ c.in-1.is) _ (inked c.args.ink) _ _ refl refl c.touch1.ensures.same
-
-pub returns-in-2 : goal.returns-in-2
-returns-in-2 c = touch_is c.args.canvas c.args.b.now c.args.x c.args.y _ c.requires.0 c.requires.1.0 (scaled c.args.canvas _ _ 2 c.index-o.ensures.0 (sym c.requires.1.1 ∙ c.in-2.is)) 2 (sym c.requires.1.1 ∙ c.in-2.is) _ (inked c.args.ink) _ _ refl refl c.touch2.ensures.same
-
-pub returns-in_default : goal.returns-in_default
-returns-in_default c = touch_is c.args.canvas c.args.b.now c.args.x c.args.y _ c.requires.0 c.requires.1.0 (scaled c.args.canvas _ _ 4 c.index-o.ensures.0 (sized_four c.args.canvas c.args.n c.requires.0.known c.requires.1.1 c.in_default.in_default-own.rest.0.1 c.in_default.in_default-own.rest.1)) 4 (sized_four c.args.canvas c.args.n c.requires.0.known c.requires.1.1 c.in_default.in_default-own.rest.0.1 c.in_default.in_default-own.rest.1) _ (inked c.args.ink) _ _ refl refl c.touch4.ensures.same
+pub returns : goal.returns
+returns g c =
+    let a = c.args in
+    let p₀ = c.requires in
+    touch_is a.canvas a.b.now a.x a.y _ g.row.N p₀.0 p₀.1.0 c.index.ensures.0 (sym p₀.1.1) _ (inked a.ink) _ _ refl refl c.touch.ensures.same

@@ -6,7 +6,6 @@ use Rattle.pixels.proofs.rows.Rows.{Rest}
 use Rattle.pixels.proofs.rows.ink_box.Given as goal
 
 abbrev pub invariant-loop-y : goal.invariant-loop-y
-invariant-loop-y l = Rest l.canvas (field (flat (inked l.ink)) (run l.x0 (l.x1 - l.x0)) (run l.y (l.y1 - l.y))) l.b (field (flat (inked l.ink)) (run l.x0 (l.x1 - l.x0)) (run l.initial.y (l.y1 - l.initial.y))) l.initial.b
-
-abbrev pub decreases-loop-y : goal.decreases-loop-y
-decreases-loop-y l = l.y1 - l.y
+invariant-loop-y l =
+    let xs = run l.xs.from (l.xs.to - l.xs.from) in
+    Rest l.canvas (field (flat (inked l.ink)) xs (run l.y (l.y-end - l.y))) l.b (field (flat (inked l.ink)) xs (run l.fn.ys.from (l.y-end - l.fn.ys.from))) l.initial.b

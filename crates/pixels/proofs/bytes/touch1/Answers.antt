@@ -1,8 +1,0 @@
--- The word is read, inked and put back.
-use mathlib.Core.Path.{◌∙◌, ap}
-use Rattle.words.specs.Ink.{inked}
-use Rattle.pixels.specs.Bytes.{store, cells}
-use Rattle.pixels.proofs.bytes.touch1.Goals as goal
-
-pub returns : goal.returns
-returns c = record { same = c.put1.ensures ∙ ap (store (cells 1 c.args.o) c.args.b.now) (c.on.ensures ∙ ap (inked c.args.ink) c.word1.ensures.0) }
