@@ -1,8 +1,8 @@
--- `words::color565` meets its contract: the levels are bytes.
+-- `Rgb565::color` meets its contract: the levels are bytes.
 use native.Mathlib.Omega.{arith}
 use Rattle.words.specs.Word.{to_color}
 use Rattle.words.proofs.Reading.{byte5, byte6}
-use Rattle.words.proofs.color565.Goals as goal
+use Rattle.words.proofs.layout.Rgb565Layout.color.Goals as goal
 
 pub overflow_cast-r : goal.overflow_cast-r
 overflow_cast-r c = record { fits = rw c.level5_of-r.ensures (byte5 _ (omega arith)) }

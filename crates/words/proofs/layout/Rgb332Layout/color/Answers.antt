@@ -1,7 +1,7 @@
--- `words::color332` meets its contract, which says the same.
+-- `Rgb332::color` meets its contract, which says the same.
 use mathlib.Core.Path.{refl}
 use Rattle.words.specs.Word.{to_color}
-use Rattle.words.proofs.color332.Goals as goal
+use Rattle.words.proofs.layout.Rgb332Layout.color.Goals as goal
 
 pub returns : goal.returns
 unfolding to_color
