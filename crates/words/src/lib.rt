@@ -126,7 +126,7 @@ fn solid_ink<L: Layout>(color: Color) -> Ink
 {
     let word = L::word(Color { a: 0, ..color });
     Ink {
-        keep: 0xFF_FFFF,
+        keep: 0x00FF_FFFF,
         flip: 0xFF00_0000 + word,
     }
 }

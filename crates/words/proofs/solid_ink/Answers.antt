@@ -2,7 +2,7 @@
 use mathlib.Core.Path.{ap}
 use Prim.Native.Nat.{ℕ, ◌+◌}
 use native.Mathlib.Omega.{arith}
-use Rattle.words.specs.Ink.{bare, ink}
+use Rattle.words.specs.Ink.{ink}
 use Rattle.words.proofs.Laws.{bare_fits}
 use Rattle.words.proofs.solid_ink.Goals as goal
 
