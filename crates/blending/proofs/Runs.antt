@@ -6,7 +6,7 @@ use Prim.Native.Nat.{ℕ, zero, suc, ◌+◌, ◌≤◌, ◌<◌, min}
 use native.Mathlib.Numerals.{add-one}
 use native.Mathlib.Omega.{arith}
 use lib.Dec.{T, ltb, ltb→lt, nltb→le}
-use lib.ListN.{length, get_or, take, set, length-set, length-map, length-take}
+use lib.ListN.{length, get_or, take, set, length-map, length-take}
 use lib.Seq.{take_all}
 use Rattle.words.specs.Format.{Format, argb, range}
 use Rattle.words.specs.Word.{from_color, to_color, seen}
@@ -65,34 +65,24 @@ module _ (make : ℕ → ℕ → ℕ) where
   enough (c ∷ cs) (w ∷ ws) zero h = absurd (omega arith)
   enough (c ∷ cs) (w ∷ ws) (suc n) h = ap (λ (t : List ℕ). make c w ∷ t) (enough cs ws n (omega arith))
 
-  -- A loop that has made i words, and makes one more; and one that has made all.
-  abbrev pub Made : List ℕ → List ℕ → ℕ → List ℕ → ℕ → Type 0
-  Made cs ws n ds i = (length ws ≡ length ds) × (i ≤ n) × (ds ≡ pairwise make (take i cs) ws)
-
-  pub make_first : (cs ws : List ℕ) (n : ℕ) → Made cs ws n ws 0
-  unfolding pairwise
-  make_first cs ws n = (refl, omega arith, refl)
-
+  -- A loop that has made i words makes one more; and where it has made all that stand beside others, all are made.
   pub make_more :
-      (cs ws : List ℕ) (n : ℕ) (ds : List ℕ) (i v : ℕ) → i < n → i < length cs → i < length ws → Made cs ws n ds i →
-      v ≡ make (get_or cs i 0) (get_or ds i 0) → Made cs ws n (set ds i v) (i + 1)
-  make_more cs ws n ds i v l h k m e =
+      (cs ws : List ℕ) (ds : List ℕ) (i v : ℕ) → i < length cs → i < length ws → ds ≡ pairwise make (take i cs) ws →
+      v ≡ make (get_or cs i 0) (get_or ds i 0) → set ds i v ≡ pairwise make (take (i + 1) cs) ws
+  make_more cs ws ds i v h k m e =
       let short : length (take i cs) ≤ i = rw length-take (omega arith) in
-      let old : get_or ds i 0 ≡ get_or ws i 0 = ap (λ (t : List ℕ). get_or t i 0) m.2 ∙ pairwise-past (take i cs) ws i short in (
-        m.0 ∙ sym (length-set ds i v),
-        omega arith,
-        ap (set ds i) (e ∙ ap (make (get_or cs i 0)) old)
-            ∙ ap (λ (t : List ℕ). set t i (make (get_or cs i 0) (get_or ws i 0))) m.2
-            ∙ one_more cs ws i h k
-            ∙ ap (λ (j : ℕ). pairwise make (take j cs) ws) (sym (add-one i)),
-      )
+      let old : get_or ds i 0 ≡ get_or ws i 0 = ap (λ (t : List ℕ). get_or t i 0) m ∙ pairwise-past (take i cs) ws i short in
+      ap (set ds i) (e ∙ ap (make (get_or cs i 0)) old)
+      ∙ ap (λ (t : List ℕ). set t i (make (get_or cs i 0) (get_or ws i 0))) m
+      ∙ one_more cs ws i h k
+      ∙ ap (λ (j : ℕ). pairwise make (take j cs) ws) (sym (add-one i))
 
-  pub made_all : (cs ws : List ℕ) (n : ℕ) (ds : List ℕ) (i : ℕ) → n ≡ min (length cs) (length ws) → n ≤ i → Made cs ws n ds i → ds ≡ pairwise make cs ws
-  made_all cs ws n ds i e h m = m.2 ∙ go (ltb (length cs) (length ws)) (ltb→lt (length cs) (length ws)) (nltb→le (length cs) (length ws))
+  pub made_all : (cs ws : List ℕ) (n : ℕ) → n ≡ min (length cs) (length ws) → pairwise make (take n cs) ws ≡ pairwise make cs ws
+  made_all cs ws n e = go (ltb (length cs) (length ws)) (ltb→lt (length cs) (length ws)) (nltb→le (length cs) (length ws))
     where
-      go : (b : Bool) → (T b → length cs < length ws) → (T (not b) → length ws ≤ length cs) → pairwise make (take i cs) ws ≡ pairwise make cs ws
-      go true f g = let p = f tt in ap (λ (t : List ℕ). pairwise make t ws) (take_all i cs (omega arith))
-      go false f g = let p = g tt in enough cs ws i (omega arith)
+      go : (b : Bool) → (T b → length cs < length ws) → (T (not b) → length ws ≤ length cs) → pairwise make (take n cs) ws ≡ pairwise make cs ws
+      go true f g = let p = f tt in ap (λ (t : List ℕ). pairwise make t ws) (take_all n cs (omega arith))
+      go false f g = let p = g tt in enough cs ws n (omega arith)
 
 -- ---- words read
 

@@ -10,11 +10,8 @@ ghost use Rattle.blending.specs.Blend.{mix as mix_by};
 ghost use Rattle.blending.specs.Inner.{mixed, Laid};
 
 mod cut;
-mod flip;
+mod drawn;
 pub mod loops;
-mod over;
-mod read;
-mod store;
 
 use words::{Color, Ink, level5_of, level6_of};
 

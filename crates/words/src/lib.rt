@@ -2,16 +2,19 @@
 #![tactic(auto)]
 
 ghost use Rattle.std.specs.Prelude.{◌≡◌, ◌+◌, ◌%◌, ◌<◌};
-ghost use Rattle.words.specs.Format.{format_of, bytes_per_pixel, rgb332, rgb565, rgb8, argb, abgr};
+ghost use Rattle.words.specs.Format.{format_of, bytes_per_pixel};
 ghost use Rattle.words.specs.Word.{from_color, to_color, level5, level6};
 ghost use Rattle.words.specs.Table.{fives, sixes, back332, through332, through565};
 ghost use Rattle.words.specs.Ink.{bare, ink, inked, xor_ink, plot_ink};
 ghost use Rattle.words.specs.Invert.{invert_ink};
 
 mod colors;
+pub mod layout;
 mod levels;
 
-#[derive(Clone, Copy)]
+use layout::{Abgr, Argb, Layout, Rgb8, Rgb332, Rgb565};
+
+#[derive(Clone, Copy, Default)]
 pub struct Color {
     pub a: u8,
     pub r: u8,
@@ -33,47 +36,9 @@ pub fn bytes_per_pixel(format: u32) -> usize
     match format {
         0 => 1,
         1 => 2,
-        2 => 4,
-        3 => 4,
-        4 => 4,
+        2..=4 => 4,
         _ => 0,
     }
-}
-
-fn word332(color: Color) -> u32
-    ensures { result ≡ from_color rgb332 color }
-{
-    let r = (color.r as u32 * 7 + 127) / 255;
-    let g = (color.g as u32 * 7 + 127) / 255;
-    let b = (color.b as u32 * 3 + 127) / 255;
-    r * 32 + g * 4 + b
-}
-
-fn word565(color: Color) -> u32
-    ensures { result ≡ from_color rgb565 color }
-{
-    let r = color.r as u32 / 8;
-    let g = color.g as u32 / 4;
-    let b = color.b as u32 / 8;
-    r * 2048 + g * 32 + b
-}
-
-fn word_rgb8(color: Color) -> u32
-    ensures { result ≡ from_color rgb8 color }
-{
-    color.r as u32 * 65536 + color.g as u32 * 256 + color.b as u32
-}
-
-fn word_argb(color: Color) -> u32
-    ensures { result ≡ from_color argb color }
-{
-    color.a as u32 * 16777216 + color.r as u32 * 65536 + color.g as u32 * 256 + color.b as u32
-}
-
-fn word_abgr(color: Color) -> u32
-    ensures { result ≡ from_color abgr color }
-{
-    color.a as u32 * 16777216 + color.b as u32 * 65536 + color.g as u32 * 256 + color.r as u32
 }
 
 // The word that a colour is stored as.
@@ -81,11 +46,11 @@ pub fn from_color(format: u32, color: Color) -> u32
     ensures { result ≡ from_color (format_of format) color }
 {
     match format {
-        0 => word332(color),
-        1 => word565(color),
-        2 => word_rgb8(color),
-        3 => word_argb(color),
-        4 => word_abgr(color),
+        0 => Rgb332::word(color),
+        1 => Rgb565::word(color),
+        2 => Rgb8::word(color),
+        3 => Argb::word(color),
+        4 => Abgr::word(color),
         _ => 0,
     }
 }
@@ -111,40 +76,11 @@ pub fn colors332() -> [u32; 256]
     colors::BACK332
 }
 
-fn color_rgb8(raw: u32) -> Color
-    ensures { result ≡ to_color rgb8 raw }
-{
-    let r = (raw / 65536 % 256) as u8;
-    let g = (raw / 256 % 256) as u8;
-    let b = (raw % 256) as u8;
-    Color { a: 255, r, g, b }
-}
-
-fn color_argb(raw: u32) -> Color
-    ensures { result ≡ to_color argb raw }
-{
-    let a = (raw / 16777216 % 256) as u8;
-    let r = (raw / 65536 % 256) as u8;
-    let g = (raw / 256 % 256) as u8;
-    let b = (raw % 256) as u8;
-    Color { a, r, g, b }
-}
-
-fn color_abgr(raw: u32) -> Color
-    ensures { result ≡ to_color abgr raw }
-{
-    let a = (raw / 16777216 % 256) as u8;
-    let b = (raw / 65536 % 256) as u8;
-    let g = (raw / 256 % 256) as u8;
-    let r = (raw % 256) as u8;
-    Color { a, r, g, b }
-}
-
 // A word of 332 read through a table of ARGB words.
 pub fn read332(raw: u32, table: &[u32; 256]) -> Color
     ensures { result ≡ through332 table.now raw }
 {
-    color_argb(table[(raw % 256) as usize])
+    Argb::color(table[(raw % 256) as usize])
 }
 
 // A word of 565 read through tables of levels.
@@ -154,15 +90,6 @@ pub fn read565(raw: u32, fives: &[u8; 32], sixes: &[u8; 64]) -> Color
     let r = fives[(raw / 2048 % 32) as usize];
     let g = sixes[(raw / 32 % 64) as usize];
     let b = fives[(raw % 32) as usize];
-    Color { a: 255, r, g, b }
-}
-
-fn color332(raw: u32) -> Color
-    ensures { result ≡ to_color rgb332 raw }
-{
-    let r = (raw / 32 % 8 * 36) as u8;
-    let g = (raw / 4 % 8 * 36) as u8;
-    let b = (raw % 4 * 85) as u8;
     Color { a: 255, r, g, b }
 }
 
@@ -179,55 +106,28 @@ pub fn level6_of(v: u32) -> u32
     (v % 64 * 259 + 33) / 64
 }
 
-fn color565(raw: u32) -> Color
-    ensures { result ≡ to_color rgb565 raw }
-{
-    let r = level5_of(raw / 2048) as u8;
-    let g = level6_of(raw / 32) as u8;
-    let b = level5_of(raw) as u8;
-    Color { a: 255, r, g, b }
-}
-
 // The colour that a word is read as.
 pub fn to_color(format: u32, raw: u32) -> Color
     ensures { result ≡ to_color (format_of format) raw }
 {
     match format {
-        0 => color332(raw),
-        1 => color565(raw),
-        2 => color_rgb8(raw),
-        3 => color_argb(raw),
-        4 => color_abgr(raw),
-        _ => Color {
-            a: 0,
-            r: 0,
-            g: 0,
-            b: 0,
-        },
+        0 => Rgb332::color(raw),
+        1 => Rgb565::color(raw),
+        2 => Rgb8::color(raw),
+        3 => Argb::color(raw),
+        4 => Abgr::color(raw),
+        _ => Color::default(),
     }
 }
 
-// The colour bytes alone.
-fn bare_of(color: Color) -> Color
-    ensures { result ≡ bare color }
+// XOR with the colour bytes alone, which makes alpha 255.
+fn solid_ink<L: Layout>(color: Color) -> Ink
+    ensures { result ≡ ink 16777215 (4278190080 + from_color L.form (bare color)) }
 {
-    Color {
-        a: 0,
-        r: color.r,
-        g: color.g,
-        b: color.b,
-    }
-}
-
-// XOR with a word of colour bytes alone, which makes alpha 255.
-fn solid_ink(word: u32) -> Ink
-    requires { word < 16777216 }
-    ensures { result ≡ ink 16777215 (4278190080 + word) }
-{
-    let flip = 4278190080 + word;
+    let word = L::word(Color { a: 0, ..color });
     Ink {
-        keep: 16777215,
-        flip,
+        keep: 0x00FF_FFFF,
+        flip: 0xFF00_0000 + word,
     }
 }
 
@@ -236,12 +136,9 @@ pub fn xor_ink(format: u32, color: Color) -> Ink
     ensures { result ≡ xor_ink (format_of format) color }
 {
     match format {
-        3 => solid_ink(word_argb(bare_of(color))),
-        4 => solid_ink(word_abgr(bare_of(color))),
-        _ => Ink {
-            keep: 4294967295,
-            flip: from_color(format, color),
-        },
+        3 => solid_ink::<Argb>(color),
+        4 => solid_ink::<Abgr>(color),
+        _ => Ink::flipping(from_color(format, color)),
     }
 }
 
@@ -256,10 +153,7 @@ pub fn plot_ink(format: u32, xor: bool, color: Color) -> Ink
         };
     }
     if color.a == 0 {
-        return Ink {
-            keep: 4294967295,
-            flip: 0,
-        };
+        return Ink::flipping(0);
     }
     xor_ink(format, color)
 }
@@ -269,34 +163,28 @@ pub fn invert_ink(format: u32) -> Ink
     ensures { result ≡ invert_ink (format_of format) }
 {
     match format {
-        0 => Ink {
-            keep: 0xFFFF_FFFF,
-            flip: 0xFF,
-        },
-        1 => Ink {
-            keep: 0xFFFF_FFFF,
-            flip: 0xFFFF,
-        },
+        0 => Ink::flipping(0xFF),
+        1 => Ink::flipping(0xFFFF),
         2 => Ink {
             keep: 0xFF_FFFF,
             flip: 0xFF_FFFF,
         },
-        3 => Ink {
-            keep: 0xFFFF_FFFF,
-            flip: 0xFF_FFFF,
-        },
-        4 => Ink {
-            keep: 0xFFFF_FFFF,
-            flip: 0xFF_FFFF,
-        },
-        _ => Ink {
-            keep: 0xFFFF_FFFF,
-            flip: 0,
-        },
+        3 | 4 => Ink::flipping(0xFF_FFFF),
+        _ => Ink::flipping(0),
     }
 }
 
 impl Ink {
+    // The ink that keeps all bits and then flips some.
+    fn flipping(flip: u32) -> Ink
+        ensures { result ≡ ink 4294967295 flip }
+    {
+        Ink {
+            keep: u32::MAX,
+            flip,
+        }
+    }
+
     // The word that a plot leaves where a word stands.
     pub fn on(self, raw: u32) -> u32
         ensures { result ≡ inked self raw }

@@ -4,4 +4,4 @@ use Rattle.words.proofs.read332.Goals as goal
 
 pub returns : goal.returns
 unfolding through332
-returns c = c.color_argb.ensures
+returns c = c.color.ensures

@@ -1,24 +1,25 @@
--- `read_colors` makes one word after another.
-use mathlib.Core.Path.{◌∙◌}
+-- `read_colors` takes the loops of its format.
+use mathlib.Core.Path.{◌≡◌}
 use native.Mathlib.Omega.{arith}
-use lib.ListN.{length}
 use Rattle.words.specs.Format.{format_of}
-use Rattle.blending.proofs.Runs.{make_first, make_more, made_all, reading, read_all}
 use Rattle.blending.proofs.loops.read_colors.Goals as goal
 
-pub loop-i-init : goal.loop-i-init
-loop-i-init c = let a = c.args in let ws = a.words.now in make_first (reading (format_of a.format)) ws ws (length ws)
+pub returns-in-0 : goal.returns-in-0
+unfolding format_of
+returns-in-0 c = rw c.in-0.is c.read_as.ensures
 
-pub loop-i-preserved : goal.loop-i-preserved
-loop-i-preserved c =
-    let a = c.args in
-    let ws = a.words.now in
-    let l = c.loop-i in
-    make_more (reading (format_of a.format)) ws ws (length ws) l.words l.i _ (omega arith) (omega arith) (omega arith) l.invariant c.argb_of.ensures
+pub returns-in-1 : goal.returns-in-1
+unfolding format_of
+returns-in-1 c = rw c.in-1.is c.read_as-in-1.ensures
 
-pub returns : goal.returns
-returns c =
-    let a = c.args in
-    let ws = a.words.now in
-    let l = c.loop-i in
-    made_all (reading (format_of a.format)) ws ws (length ws) l.words l.i (omega arith) (omega arith) l.invariant ∙ read_all (format_of a.format) ws
+pub returns-in-2 : goal.returns-in-2
+unfolding format_of
+returns-in-2 c = rw c.in-2.is c.read_as-in-2.ensures
+
+pub returns-in-3 : goal.returns-in-3
+unfolding format_of
+returns-in-3 c = rw c.in-3.is c.read_as-in-3.ensures
+
+pub returns-in_default : goal.returns-in_default
+unfolding format_of
+returns-in_default c = let e : c.args.format ≡ 4 = omega arith in rw e c.read_as-in_default.ensures

@@ -1,25 +1,25 @@
--- `store_words` makes one word after another.
+-- `store_words` takes the loops of its format.
+use mathlib.Core.Path.{◌≡◌}
 use native.Mathlib.Omega.{arith}
 use Rattle.words.specs.Format.{format_of}
-use Rattle.blending.specs.Loops.{store, stored}
-use Rattle.blending.proofs.Runs.{make_first, make_more, made_all}
 use Rattle.blending.proofs.loops.store_words.Goals as goal
 
-pub loop-i-init : goal.loop-i-init
-loop-i-init c = let a = c.args in make_first (store (format_of a.format)) a.colors.now a.words.now c.shorter-n.result
+pub returns-in-0 : goal.returns-in-0
+unfolding format_of
+returns-in-0 c = rw c.in-0.is c.store_as.ensures
 
-pub loop-i-preserved : goal.loop-i-preserved
-loop-i-preserved c =
-    let a = c.args in
-    let n = c.shorter-n in
-    let l = c.loop-i in
-    make_more (store (format_of a.format)) a.colors.now a.words.now n.result l.words l.i _ (omega arith) (omega arith) (omega arith) l.invariant
-    c.store.ensures
+pub returns-in-1 : goal.returns-in-1
+unfolding format_of
+returns-in-1 c = rw c.in-1.is c.store_as-in-1.ensures
 
-pub returns : goal.returns
-unfolding stored
-returns c =
-    let a = c.args in
-    let n = c.shorter-n in
-    let l = c.loop-i in
-    made_all (store (format_of a.format)) a.colors.now a.words.now n.result l.words l.i n.ensures (omega arith) l.invariant
+pub returns-in-2 : goal.returns-in-2
+unfolding format_of
+returns-in-2 c = rw c.in-2.is c.store_as-in-2.ensures
+
+pub returns-in-3 : goal.returns-in-3
+unfolding format_of
+returns-in-3 c = rw c.in-3.is c.store_as-in-3.ensures
+
+pub returns-in_default : goal.returns-in_default
+unfolding format_of
+returns-in_default c = let e : c.args.format ≡ 4 = omega arith in rw e c.store_as-in_default.ensures

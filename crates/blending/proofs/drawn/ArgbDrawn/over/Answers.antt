@@ -1,0 +1,13 @@
+-- `Argb::over` meets its contract: the bits set are those of alpha.
+use mathlib.Core.Path.{◌∙◌}
+use Rattle.words.specs.Format.{argb}
+use Rattle.words.specs.Word.{to_color}
+use Rattle.words.proofs.Reading.{read_channels}
+use Rattle.blending.specs.Blend.{rule_of}
+use Rattle.blending.proofs.Tops.{set-argb}
+use Rattle.blending.proofs.drawn.ArgbDrawn.over.Goals as goal
+
+pub returns : goal.returns
+returns c =
+    let a = c.args in
+    c.blend_rgb.ensures ∙ set-argb (rule_of a.rule) (to_color argb a.source) a.raw (read_channels argb a.source)

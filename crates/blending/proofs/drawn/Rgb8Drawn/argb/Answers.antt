@@ -1,0 +1,9 @@
+-- `Rgb8::argb` meets its contract, by arithmetic on the fields.
+use native.Mathlib.Omega.{arith}
+use Rattle.words.specs.Word.{from_color, to_color}
+use Rattle.words.proofs.Reading.{low-bytes}
+use Rattle.blending.proofs.drawn.Rgb8Drawn.argb.Goals as goal
+
+pub returns : goal.returns
+unfolding from_color to_color
+returns c = omega (arith, low-bytes c.args.raw)

@@ -1,8 +1,0 @@
--- `store565` meets its contract, whose sum it is.
-use mathlib.Core.Path.{refl}
-use Rattle.words.specs.Word.{from_color, to_color}
-use Rattle.blending.proofs.store.store565.Goals as goal
-
-pub returns : goal.returns
-unfolding from_color to_color
-returns c = refl

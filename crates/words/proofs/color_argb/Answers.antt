@@ -1,8 +1,0 @@
--- `words::color_argb` meets its contract, which says the same.
-use mathlib.Core.Path.{refl}
-use Rattle.words.specs.Word.{to_color}
-use Rattle.words.proofs.color_argb.Goals as goal
-
-pub returns : goal.returns
-unfolding to_color
-returns c = refl
