@@ -1,6 +1,6 @@
 -- The verdict of an eighth of a turn is that of the test itself: a sweep of whole degrees has all angles of an eighth that lies in it, and none of one that
 -- lies past it. Assumes nothing.
-use Rattle.std.proofs.Common.{◌≡◌, ℕ, zero, suc, ◌+◌, ◌-◌, ◌*◌, ◌/◌, ◌%◌, ◌<◌, ◌≤◌, Bool, true, false, cond, ◌&&◌, ◌||◌, T, eqb, ltb, leb, ◌⊎◌, pos, sym, refl, ap, ◌∙◌, subst, ap₂, inl, inr, mod-lt, div-add-mod', zero-mul, arith, lit<, eqb→eq, ltb-false, le-ltb, eqb-true, leb-true}
+use Rattle.std.proofs.Common.{◌≡◌, ℕ, zero, suc, ◌+◌, ◌-◌, ◌*◌, ◌/◌, ◌%◌, ◌<◌, ◌≤◌, Bool, true, false, cond, ◌&&◌, ◌||◌, T, eqb, ltb, leb, ◌⊎◌, Option, Some, None, pos, sym, refl, ap, ◌∙◌, subst, ap₂, inl, inr, mod-lt, div-add-mod', zero-mul, arith, lit<, eqb→eq, ltb-false, le-ltb, eqb-true, leb-true}
 use mathlib.Core.Bool.{beq}
 use native.Mathlib.Nat.{eq_of_mul-eq-mul_right}
 use native.Mathlib.Decide.{dec_lt}
@@ -15,7 +15,7 @@ use Rattle.angle.specs.Meaning.{D}
 use Rattle.angle.specs.Arctangent.{arctangent_of, Domain}
 use Rattle.angle.proofs.arctangent.Ops.{D-pos}
 use Rattle.angle.proofs.arctangent.Eighths.{in_eighth}
-use Rattle.curves.specs.declared.pies.Sweep.{Sweep}
+use Rattle.curves.specs.declared.pies.Sweep.TheVariants.{Part}
 use Rattle.curves.specs.declared.pies.Degrees.{Degrees}
 use Rattle.curves.specs.Pies.{is_whole, degrees_of, flank_of, eighth_of, in_arc}
 use Rattle.curves.proofs.Eighths.{Turned, turned, all_in, none_in, apart, whole-over, whole_under}
@@ -156,77 +156,81 @@ start st n h e = go (dec_lt 1440 n)
         zeros z false = omega arith
 
 -- ---- the verdict
-module _ (s : Sweep) (n l : ℕ) (w : is_whole s n l ≡ true) (dx dy : Float) (h : Domain (neg dy) dx) where
-  told : (n ≤ 2880) × ((1 ≤ l) × ((l ≤ 359) × ((eq (sub binary32 (fin false 45 (pos 5)) (of_int binary32 (pos n))) s.start ≡ true) × (eq (of_int binary32 (pos l)) s.length ≡ true))))
+module _ (s z : Float) (n l : ℕ) (w : is_whole s z n l ≡ true) (dx dy : Float) (h : Domain (neg dy) dx) where
+  told : (n ≤ 2880) × ((1 ≤ l) × ((l ≤ 359) × ((eq (sub binary32 (fin false 45 (pos 5)) (of_int binary32 (pos n))) s ≡ true) × (eq (of_int binary32 (pos l)) z ≡ true))))
   unfolding is_whole
   told =
       let a = both (leb n 2880) _ w in
       let b = both (leb 1 l) _ a.1 in
       let c = both (leb l 359) _ b.1 in
-      (leb-true n 2880 a.0, (leb-true 1 l b.0, (leb-true l 359 c.0, both (eq (sub binary32 (fin false 45 (pos 5)) (of_int binary32 (pos n))) s.start) _ c.1)))
+      (leb-true n 2880 a.0, (leb-true 1 l b.0, (leb-true l 359 c.0, both (eq (sub binary32 (fin false 45 (pos 5)) (of_int binary32 (pos n))) s) _ c.1)))
 
-  long : Whole s.length false l
+  long : Whole z false l
   long =
-      let q = same (of_int binary32 (pos l)) s.length false (l * D) (whole l (omega (arith, told.1.1.0))) told.1.1.1.1 in
+      let q = same (of_int binary32 (pos l)) z false (l * D) (whole l (omega (arith, told.1.1.0))) told.1.1.1.1 in
       go q.sign q.val q.alike
     where
       some : (l d : ℕ) → 1 ≤ l → 0 < d → l * d ≡ 0 → ⊥
       some zero d h p f = omega arith
       some (suc l) d h p f = omega arith
 
-      go : (t : Bool) → Whole s.length t l → (t ≡ false) ⊎ (l * D ≡ 0) → Whole s.length false l
-      go t v (inl p) = subst (λ (b : Bool). Whole s.length b l) p v
-      go t v (inr z) = absurd (some l D told.1.0 D-pos z)
+      go : (t : Bool) → Whole z t l → (t ≡ false) ⊎ (l * D ≡ 0) → Whole z false l
+      go t v (inl p) = subst (λ (b : Bool). Whole z b l) p v
+      go t v (inr e) = absurd (some l D told.1.0 D-pos e)
 
   abbrev at : ℕ
   at = (n % 360 + 45 * eighth_of (neg dy) dx) % 360
 
-  brought : at < 315 → Turned (sub binary32 (arctangent_of (neg dy) dx) s.start) at
+  brought : at < 315 → Turned (sub binary32 (arctangent_of (neg dy) dx) s) at
   brought f =
-      let b = start s.start n told.0 told.1.1.1.0 in
+      let b = start s n told.0 told.1.1.1.0 in
       let k = in_eighth (neg dy) dx h in
-      turned (arctangent_of (neg dy) dx) s.start (flank_of (neg dy) dx) b.size k.parts at (n / 360 + (n % 360 + 45 * eighth_of (neg dy) dx) / 360) (omega (arith, flank_few (neg dy) dx))
+      turned (arctangent_of (neg dy) dx) s (flank_of (neg dy) dx) b.size k.parts at (n / 360 + (n % 360 + 45 * eighth_of (neg dy) dx) / 360) (omega (arith, flank_few (neg dy) dx))
       b.few (omega arith) k.low k.high (sign_of (neg dy)) b.sign k.val b.val
-      (ap (λ (z : ℕ). z + 45 * eighth_of (neg dy) dx) b.is ∙ turns n (eighth_of (neg dy) dx))
+      (ap (λ (m : ℕ). m + 45 * eighth_of (neg dy) dx) b.is ∙ turns n (eighth_of (neg dy) dx))
     where
       turns : (n k : ℕ) → n + 45 * k ≡ (n % 360 + 45 * k) % 360 + 360 * (n / 360 + (n % 360 + 45 * k) / 360)
       turns n k = omega (arith, div-add-mod' n 360, div-add-mod' (n % 360 + 45 * k) 360)
 
-  pub in_all : at < 315 → at + 45 ≤ l → in_arc s dx dy ≡ true
+  pub in_all : at < 315 → at + 45 ≤ l → in_arc s z dx dy ≡ true
   unfolding in_arc
-  in_all f g = all_in _ s.length at l long (brought f) g
+  in_all f g = all_in _ z at l long (brought f) g
 
-  pub in_none : at < 315 → l < at → in_arc s dx dy ≡ false
+  pub in_none : at < 315 → l < at → in_arc s z dx dy ≡ false
   unfolding in_arc
-  in_none f g = none_in _ s.length at l long (brought f) g
+  in_none f g = none_in _ z at l long (brought f) g
 
--- ---- the same of a sweep's degrees
-module _ (s : Sweep) (d : Degrees) (e : d ≡ degrees_of s) (w : d.whole ≡ true) (dx dy : Float) (h : Domain (neg dy) dx) (k at : ℕ)
-    (q : k ≡ eighth_of (neg dy) dx) (b : at ≡ (d.from + 45 * k) % 360) where
+-- ---- the same of a part sweep's degrees
+module _ (s z : Float) (o : Option Degrees) (e : o ≡ degrees_of (Part s z)) (d : Degrees) (w : o ≡ Some d) where
   abbrev count : ℕ
-  count = ceil_size (sub binary32 (fin false 45 (pos 5)) s.start)
+  count = ceil_size (sub binary32 (fin false 45 (pos 5)) s)
 
-  told-whole : is_whole s count (ceil_size s.length) ≡ true
+  told-whole : (is_whole s z count (ceil_size z) ≡ true) × (d ≡ record { from = count % 360; length = ceil_size z })
   unfolding degrees_of
-  told-whole = sym (ap (λ (z : Degrees). z.whole) e) ∙ w
+  told-whole = go (is_whole s z count (ceil_size z)) (sym w ∙ e)
+    where
+      go : (b : Bool) → Some d ≡ cond b (Some (record { from = count % 360; length = ceil_size z })) None → (b ≡ true) × (d ≡ record { from = count % 360; length = ceil_size z })
+      go true f = (refl, cc)
+      go false f = cc
 
-  at-is : at ≡ (count % 360 + 45 * eighth_of (neg dy) dx) % 360
-  unfolding degrees_of
-  at-is = b ∙ ap₂ (λ (a b : ℕ). (a + 45 * b) % 360) (ap (λ (z : Degrees). z.from) e) q
+  from-is : d.from ≡ count % 360
+  from-is = ap (λ (k : Degrees). k.from) told-whole.1
 
-  length-is : d.length ≡ ceil_size s.length
-  unfolding degrees_of
-  length-is = ap (λ (z : Degrees). z.length) e
+  length-is : d.length ≡ ceil_size z
+  length-is = ap (λ (k : Degrees). k.length) told-whole.1
 
-  pub all_of : at < 315 → at + 45 ≤ d.length → true ≡ in_arc s dx dy
-  all_of f g = sym (in_all s count (ceil_size s.length) told-whole dx dy h (subst (λ (z : ℕ). z < 315) at-is f) (omega (arith, at-is, length-is, g)))
+  pub from-few : d.from < 360
+  from-few = subst (λ (n : ℕ). n < 360) (sym from-is) (mod-lt _ (lit< tt))
 
-  pub none_of : at < 315 → d.length < at → false ≡ in_arc s dx dy
-  none_of f g = sym (in_none s count (ceil_size s.length) told-whole dx dy h (subst (λ (z : ℕ). z < 315) at-is f) (omega (arith, at-is, length-is, g)))
+  module _ (dx dy : Float) (h : Domain (neg dy) dx) (k at : ℕ) (q : k ≡ eighth_of (neg dy) dx) (b : at ≡ (d.from + 45 * k) % 360) where
+    at-is : at ≡ (count % 360 + 45 * eighth_of (neg dy) dx) % 360
+    at-is = b ∙ ap₂ (λ (a b : ℕ). (a + 45 * b) % 360) from-is q
 
-pub from-few : (s : Sweep) (d : Degrees) → d ≡ degrees_of s → d.from < 360
-unfolding degrees_of
-from-few s d e = subst (λ (n : ℕ). n < 360) (sym (ap (λ (z : Degrees). z.from) e)) (mod-lt _ (lit< tt))
+    pub all_of : at < 315 → at + 45 ≤ d.length → true ≡ in_arc s z dx dy
+    all_of f g = sym (in_all s z count (ceil_size z) told-whole.0 dx dy h (subst (λ (n : ℕ). n < 315) at-is f) (omega (arith, at-is, length-is, g)))
+
+    pub none_of : at < 315 → d.length < at → false ≡ in_arc s z dx dy
+    none_of f g = sym (in_none s z count (ceil_size z) told-whole.0 dx dy h (subst (λ (n : ℕ). n < 315) at-is f) (omega (arith, at-is, length-is, g)))
 
 pub eighth_few : (y x : Float) → eighth_of y x ≤ 7
 eighth_few y x = go (sign_of y) (flank_of y x) (flank_few y x)

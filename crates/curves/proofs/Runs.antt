@@ -39,8 +39,8 @@ module _ (t : ℕ → Bool) (taken : Bool) (x x1 : ℕ) where
         go k l m (yes n) = p.before k l n
         go k l m (no n) = let s : k ≡ i = omega arith in ap t s ∙ sym e ∙ unlike r taken q
 
-    pub ends : x1 ≤ i → Next t taken x x1 i
-    ends h = record { from = p.from; to = p.to; before = p.before; here = λ l. absurd (omega arith) }
+    pub ends : x1 ≤ i → Next t taken x x1 x1
+    ends h = record { from = omega (arith, p.from, p.to); to = omega arith; before = λ k l m. p.before k l (omega arith); here = λ l. absurd (omega arith) }
 
 -- there is one first
 differ : (b : Bool) → b ≡ not b → ⊥

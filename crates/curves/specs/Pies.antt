@@ -1,5 +1,5 @@
 -- Pies: which points of its box one takes. Definitions only.
-use Rattle.std.specs.Prelude.{◌≡◌, ℕ, ◌-◌, ◌%◌, ◌<◌, ◌≤◌, Bool, true, false, cond, not, ◌&&◌, ℤ, pos, ◌+ℤ◌, int_le, int_lt, nat_le, unsigned_abs, Float}
+use Rattle.std.specs.Prelude.{◌≡◌, ℕ, ◌-◌, ◌%◌, ◌<◌, ◌≤◌, Bool, true, false, cond, not, ◌&&◌, Option, Some, None, ℤ, pos, ◌+ℤ◌, int_le, int_lt, nat_le, unsigned_abs, Float}
 use Rattle.std.specs.Float.{fin, binary32}
 use Rattle.std.specs.Float.Ieee.{of_int, neg, add, sub, mul, div, lt, le, eq}
 use Rattle.floats.specs.Size.{plus_zero, one, abs_of, max_of, sign_of}
@@ -7,6 +7,7 @@ use Rattle.floats.specs.Degrees.{turn, rem_euclid360}
 use Rattle.floats.specs.Whole.{ceil_size}
 use Rattle.angle.specs.Arctangent.{arctangent_of, Domain}
 use Rattle.curves.specs.declared.pies.Sweep.{Sweep}
+use Rattle.curves.specs.declared.pies.Sweep.TheVariants.{All, Empty, Part}
 use Rattle.curves.specs.declared.pies.Degrees.{Degrees}
 use Rattle.curves.specs.declared.pies.Pie.{Pie}
 use Rattle.curves.specs.Oval.{half, half_axis, offset, oval_of}
@@ -15,20 +16,24 @@ use Rattle.curves.specs.Oval.{half, half_axis, offset, oval_of}
 
 -- "a sweep of size 360 or more, of either sign, is all, 0 is none", "a negative sweep being turned to run from start + sweep"
 unfoldable pub sweep_of : Float → Float → Sweep
-sweep_of start sweep = record {
-  all = le turn (abs_of sweep);
-  none = eq sweep plus_zero;
-  start = cond (lt plus_zero sweep) start (add binary32 start sweep);
-  length = cond (lt plus_zero sweep) sweep (neg sweep);
-}
+sweep_of start sweep =
+    cond (le turn (abs_of sweep)) All
+    (cond (eq sweep plus_zero) Empty (cond (lt plus_zero sweep) (Part start sweep) (Part (add binary32 start sweep) (neg sweep))))
+
+abbrev pub is_all : Sweep → Bool
+is_all All = true
+is_all Empty = false
+is_all (Part start length) = false
 
 -- "the angle less the start, brought into 0..360 in f32 .., is at most the sweep"
-unfoldable pub in_arc : Sweep → Float → Float → Bool
-in_arc s dx dy = le (rem_euclid360 (sub binary32 (arctangent_of (neg dy) dx) s.start)) s.length
+unfoldable pub in_arc : Float → Float → Float → Float → Bool
+in_arc start length dx dy = le (rem_euclid360 (sub binary32 (arctangent_of (neg dy) dx) start)) length
 
 -- "distance squared below 1 is in; else the angle .."
 unfoldable pub in_sweep : Sweep → Float → Float → Bool
-in_sweep s dx dy = cond s.all true (cond s.none false (cond (lt (add binary32 (mul binary32 dx dx) (mul binary32 dy dy)) one) true (in_arc s dx dy)))
+in_sweep All dx dy = true
+in_sweep Empty dx dy = false
+in_sweep (Part start length) dx dy = cond (lt (add binary32 (mul binary32 dx dx) (mul binary32 dy dy)) one) true (in_arc start length dx dy)
 
 -- ---- the whole test
 
@@ -43,16 +48,19 @@ in_pie x y w h start sweep i j =
 
 -- ---- the sweep of a pie, apart from its ellipse: what inner functions go by; no public contract cites what follows
 
--- Whether a sweep starts at 1440 - n degrees and is l degrees long, as much as a part of a turn.
-unfoldable pub is_whole : Sweep → ℕ → ℕ → Bool
-is_whole s n l =
-    nat_le n 2880 && (nat_le 1 l && (nat_le l 359 && (eq (sub binary32 (fin false 45 (pos 5)) (of_int binary32 (pos n))) s.start && eq (of_int binary32 (pos l)) s.length)))
+-- Whether a part sweep starts at 1440 - n degrees and is l degrees long, as much as a part of a turn.
+unfoldable pub is_whole : Float → Float → ℕ → ℕ → Bool
+is_whole start length n l =
+    nat_le n 2880 && (nat_le 1 l && (nat_le l 359 && (eq (sub binary32 (fin false 45 (pos 5)) (of_int binary32 (pos n))) start && eq (of_int binary32 (pos l)) length)))
 
-unfoldable pub degrees_of : Sweep → Degrees
-degrees_of s =
-    let n = ceil_size (sub binary32 (fin false 45 (pos 5)) s.start) in
-    let l = ceil_size s.length in
-    record { whole = is_whole s n l; from = n % 360; length = l }
+-- The degrees of a part sweep, where they are whole.
+unfoldable pub degrees_of : Sweep → Option Degrees
+degrees_of All = None
+degrees_of Empty = None
+degrees_of (Part start length) =
+    let n = ceil_size (sub binary32 (fin false 45 (pos 5)) start) in
+    let l = ceil_size length in
+    cond (is_whole start length n l) (Some (record { from = n % 360; length = l })) None
 
 -- Which eighth of a half turn, from the right on, and which of a turn has the offset that is so far up and to the right.
 abbrev pub flank_of : Float → Float → ℕ
@@ -70,8 +78,8 @@ pie_of x y w h start sweep =
 unfoldable pub all_round : Pie
 all_round = record {
   oval = record { cx = plus_zero; cy = plus_zero; a = plus_zero; b = plus_zero };
-  sweep = record { all = true; none = false; start = plus_zero; length = plus_zero };
-  degrees = record { whole = false; from = 0; length = 0 };
+  sweep = All;
+  degrees = None;
 }
 
 -- Whether its sweep has the pixel i of row j.
@@ -87,8 +95,8 @@ Asked p i j =
 
 -- Of a part sweep: its degrees are known, and it may be asked for the pixels of row y from x on and before x1.
 pub record Swept (p : Pie) (x x1 y : ℕ) : Type 0 where
-  pub degrees : p.sweep.all ≡ false → p.degrees ≡ degrees_of p.sweep
-  pub asked : p.sweep.all ≡ false → (i : ℕ) → x ≤ i → i < x1 → Asked p i y
+  pub degrees : is_all p.sweep ≡ false → p.degrees ≡ degrees_of p.sweep
+  pub asked : is_all p.sweep ≡ false → (i : ℕ) → x ≤ i → i < x1 → Asked p i y
 
 -- r is the first number from x on at which the test answers so, or x1, where none before it does.
 pub record Next (t : ℕ → Bool) (taken : Bool) (x x1 r : ℕ) : Type 0 where

@@ -4,24 +4,23 @@ ghost use Rattle.std.specs.Float.{binary32};
 ghost use Rattle.std.specs.Float.Ieee.{neg, add, mul, lt};
 ghost use Rattle.floats.specs.Size.{one};
 ghost use Rattle.angle.specs.Arctangent.{Domain};
-ghost use Rattle.curves.specs.Pies.{sweep_of, in_arc, in_sweep, pie_of, all_round, covers, Next};
+ghost use Rattle.curves.specs.declared.pies.Sweep.TheVariants.{Part};
+ghost use Rattle.curves.specs.Pies.{sweep_of, is_all, in_arc, in_sweep, pie_of, all_round, covers, Next};
 ghost use Rattle.curves.specs.Pies.{is_whole, degrees_of, flank_of, eighth_of, Swept};
 
 use crate::oval::{Oval, oval_in};
 
 // The degrees that a pie covers: all, none, or `length` of them from `start` on.
 #[derive(Clone, Copy)]
-pub struct Sweep {
-    pub all: bool,
-    pub none: bool,
-    pub start: f32,
-    pub length: f32,
+pub enum Sweep {
+    All,
+    Empty,
+    Part { start: f32, length: f32 },
 }
 
-// A part sweep in whole degrees, where it is one: how far past its start the direction of 0 degrees lies, and its length.
+// Of a part sweep in whole degrees: how far past its start the direction of 0 degrees lies, and its length.
 #[derive(Clone, Copy)]
 pub struct Degrees {
-    pub whole: bool,
     pub from: u64,
     pub length: u64,
 }
@@ -31,59 +30,52 @@ pub struct Degrees {
 pub struct Pie {
     pub oval: Oval,
     pub sweep: Sweep,
-    pub degrees: Degrees,
+    pub degrees: Option<Degrees>,
 }
 
 fn sweep_of(start: f32, sweep: f32) -> Sweep
     ensures { result ≡ sweep_of start sweep }
 {
-    let all = floats::abs(sweep) >= 360.0;
-    let none = sweep == 0.0;
-    if sweep > 0.0 {
-        return Sweep {
-            all,
-            none,
+    if floats::abs(sweep) >= 360.0 {
+        Sweep::All
+    } else if sweep == 0.0 {
+        Sweep::Empty
+    } else if sweep > 0.0 {
+        Sweep::Part {
             start,
             length: sweep,
-        };
-    }
-    Sweep {
-        all,
-        none,
-        start: start + sweep,
-        length: -sweep,
+        }
+    } else {
+        Sweep::Part {
+            start: start + sweep,
+            length: -sweep,
+        }
     }
 }
 
-// Whether a start is 1440 - n degrees, and a length this one, of a part of a turn.
-fn is_whole(s: Sweep, n: u64, length: u64) -> bool
-    ensures { result ≡ is_whole s n length }
+// Whether a part sweep starts at 1440 - n degrees and is l degrees long.
+fn is_whole(start: f32, length: f32, n: u64, l: u64) -> bool
+    ensures { result ≡ is_whole start length n l }
 {
-    if n > 2880 {
-        return false;
-    }
-    if length < 1 {
-        return false;
-    }
-    if length > 359 {
-        return false;
-    }
-    if 1440.0 - n as f32 == s.start {
-        return length as f32 == s.length;
-    }
-    false
+    n <= 2880 && 1 <= l && l <= 359 && 1440.0 - n as f32 == start && l as f32 == length
 }
 
-fn degrees_of(s: Sweep) -> Degrees
+// The degrees of a part sweep, where they are whole.
+fn degrees_of(s: Sweep) -> Option<Degrees>
     ensures { result ≡ degrees_of s }
 {
-    let n = floats::ceil_size(1440.0 - s.start);
-    let length = floats::ceil_size(s.length);
-    let whole = is_whole(s, n, length);
-    Degrees {
-        whole,
-        from: n % 360,
-        length,
+    let Sweep::Part { start, length } = s else {
+        return None;
+    };
+    let n = floats::ceil_size(1440.0 - start);
+    let l = floats::ceil_size(length);
+    if is_whole(start, length, n, l) {
+        Some(Degrees {
+            from: n % 360,
+            length: l,
+        })
+    } else {
+        None
     }
 }
 
@@ -112,21 +104,10 @@ pub fn all_round() -> Pie
         a: 0.0,
         b: 0.0,
     };
-    let sweep = Sweep {
-        all: true,
-        none: false,
-        start: 0.0,
-        length: 0.0,
-    };
-    let degrees = Degrees {
-        whole: false,
-        from: 0,
-        length: 0,
-    };
     Pie {
         oval,
-        sweep,
-        degrees,
+        sweep: Sweep::All,
+        degrees: None,
     }
 }
 
@@ -158,12 +139,12 @@ fn eighth(up: f32, right: f32) -> u64
     e
 }
 
-// Whether the angle of an offset is one of the sweep's.
-fn in_arc(s: Sweep, dx: f32, dy: f32) -> bool
-    ensures { result ≡ in_arc s dx dy }
+// Whether the angle of an offset is one of a part sweep's.
+fn in_arc(start: f32, length: f32, dx: f32, dy: f32) -> bool
+    ensures { result ≡ in_arc start length dx dy }
 {
     let angle = angle::arctangent::arctangent(-dy, dx);
-    floats::rem_euclid_360(angle - s.start) <= s.length
+    floats::rem_euclid_360(angle - start) <= length
 }
 
 // How far past a sweep's start an eighth of a turn begins.
@@ -179,12 +160,12 @@ fn begins(from: u64, eighth: u64) -> u64
 }
 
 // The same. An eighth of a turn that lies all in the sweep, or all past it, is not asked for the angle.
-fn in_part(s: Sweep, d: Degrees, dx: f32, dy: f32) -> bool
-    requires { (d ≡ degrees_of s) × (Domain (neg dy) dx) }
-    ensures { result ≡ in_arc s dx dy }
+fn in_part(start: f32, length: f32, degrees: Option<Degrees>, dx: f32, dy: f32) -> bool
+    requires { (degrees ≡ degrees_of (Part start length)) × (Domain (neg dy) dx) }
+    ensures { result ≡ in_arc start length dx dy }
 {
-    let at = begins(d.from, eighth(-dy, dx));
-    if d.whole {
+    if let Some(d) = degrees {
+        let at = begins(d.from, eighth(-dy, dx));
         if at < 315 {
             if at + 45 <= d.length {
                 return true;
@@ -194,24 +175,24 @@ fn in_part(s: Sweep, d: Degrees, dx: f32, dy: f32) -> bool
             }
         }
     }
-    in_arc(s, dx, dy)
+    in_arc(start, length, dx, dy)
 }
 
 // point_in_sweep, of the offset from the centre.
-fn in_sweep(s: Sweep, d: Degrees, dx: f32, dy: f32) -> bool
-    requires { (s.all ≡ false → d ≡ degrees_of s) × (s.all ≡ false → lt (add binary32 (mul binary32 dx dx) (mul binary32 dy dy)) one ≡ false → Domain (neg dy) dx) }
+fn in_sweep(s: Sweep, d: Option<Degrees>, dx: f32, dy: f32) -> bool
+    requires { (is_all s ≡ false → d ≡ degrees_of s) × (is_all s ≡ false → lt (add binary32 (mul binary32 dx dx) (mul binary32 dy dy)) one ≡ false → Domain (neg dy) dx) }
     ensures { result ≡ in_sweep s dx dy }
 {
-    if s.all {
-        return true;
+    match s {
+        Sweep::All => true,
+        Sweep::Empty => false,
+        Sweep::Part { start, length } => {
+            if dx * dx + dy * dy < 1.0 {
+                return true;
+            }
+            in_part(start, length, d, dx, dy)
+        }
     }
-    if s.none {
-        return false;
-    }
-    if dx * dx + dy * dy < 1.0 {
-        return true;
-    }
-    in_part(s, d, dx, dy)
 }
 
 // The first pixel of row y, from x on and before x1, that the sweep has (or that it has not); x1 if there is none.
@@ -223,13 +204,11 @@ pub fn next(p: Pie, y: u16, x: usize, x1: usize, taken: bool) -> usize
     let s = p.sweep;
     let d = p.degrees;
     let dy = y as f32 - o.cy;
-    let mut i = x;
-    while i < x1 {
+    for i in x..x1 {
         let dx = i as u16 as f32 - o.cx;
         if in_sweep(s, d, dx, dy) == taken {
             return i;
         }
-        i = i + 1;
     }
-    i
+    x1
 }

@@ -1,8 +1,8 @@
--- A float's size and sign from the comparisons that the code makes: a NaN differs from itself, and a zero's sign shows
--- in its reciprocal. Assumes nothing.
-use Rattle.std.proofs.Common.{◌≡◌, ℕ, zero, suc, ◌+◌, ◌*◌, ◌^◌, ◌<◌, ◌≤◌, Bool, true, false, not, T, eqb, ltb, ℤ, pos, negsuc, sym, refl, ap, subst, zero-lt-suc, mul-pos, arith, eqb→eq, ltb→lt, nltb→le, T_not, pow_pos, le-ltb}
-use lib.Ieee.{Float, nan, inf, fin, binary32, up, down, neg, div, lt, eq, ne, is_nan, fits}
-use lib.Ieee.Fits.{up_pos, and_i, and_l, eq→eqb}
+-- A float's size and sign, by the library's words and by comparisons. Assumes nothing.
+use Rattle.std.proofs.Common.{◌≡◌, ℕ, ◌+◌, ◌*◌, ◌≤◌, Bool, true, false, not, T, eqb, ltb, ℤ, refl, ap, arith, eqb→eq, ltb→lt, nltb→le, T_not, le-ltb}
+use Rattle.std.specs.Float.{is_sign_negative, float_with_sign}
+use lib.Ieee.{Float, nan, inf, fin, up, down, neg, lt, eq, ne, is_nan}
+use lib.Ieee.Fits.{and_i, and_l, eq→eqb}
 use lib.Ieee.Compare.{differs_from_itself}
 use Rattle.floats.specs.Size.{plus_zero, abs_of, sign_of}
 use Rattle.floats.proofs.Range.{none, no_less, yes, no}
@@ -19,6 +19,12 @@ nan_is_not (inf s) h = refl
 nan_is_not (fin s m e) h = refl
 
 -- ---- abs
+pub abs_is : (x : Float) → float_with_sign false x ≡ abs_of x
+unfolding float_with_sign abs_of
+abs_is nan = refl
+abs_is (inf s) = refl
+abs_is (fin s m e) = refl
+
 pub abs_neg : (x : Float) → T (lt x plus_zero) → neg x ≡ abs_of x
 unfolding lt neg abs_of
 abs_neg nan h = absurd h
@@ -27,29 +33,25 @@ abs_neg (inf false) h = absurd h
 abs_neg (fin true m e) h = refl
 abs_neg (fin false m e) h = absurd (none (m * up e * 1) (down e) (ltb→lt (m * up e * 1) (0 * 1 * down e) h))
 
--- the format writes a zero with the exponent 0
-zero_is : (m : ℕ) (e : ℤ) (s : Bool) → T (fits binary32 (fin s m e)) → m * up e * 1 ≡ 0 * 1 * down e → plus_zero ≡ fin false m e
-unfolding fits
-zero_is zero (pos zero) s f h = refl
-zero_is zero (pos (suc k)) s f h = absurd (not_one (2 ^ k) (eqb→eq (2 ^ suc k * 1) 1 f))
-  where
-    not_one : (x : ℕ) → 2 ^ suc k * 1 ≡ 1 → ⊥
-    not_one x q = omega (arith, pow_pos k)
-zero_is zero (negsuc k) s f h = absurd (not_one (2 ^ k) (eqb→eq (1 * 2 ^ suc k) 1 f))
-  where
-    not_one : (x : ℕ) → 1 * 2 ^ suc k ≡ 1 → ⊥
-    not_one x q = omega (arith, pow_pos k)
-zero_is (suc m) e s f h = absurd (no_zero (suc m * up e) (down e) (mul-pos (zero-lt-suc m) (up_pos e)) h)
-  where
-    no_zero : (a d : ℕ) → 0 < a → a * 1 ≡ 0 * d → ⊥
-    no_zero a d p q = omega arith
+-- ---- the sign
+pub sign_is : (x : Float) → is_sign_negative x ≡ sign_of x
+unfolding is_sign_negative sign_of
+sign_is nan = refl
+sign_is (inf s) = refl
+sign_is (fin s m e) = refl
 
-pub abs_zero : (x : Float) → T (fits binary32 x) → T (eq x plus_zero) → plus_zero ≡ abs_of x
-unfolding eq abs_of
-abs_zero nan f h = absurd h
-abs_zero (inf s) f h = absurd h
-abs_zero (fin true m e) f h = zero_is m e true f (eqb→eq (m * up e * 1) (0 * 1 * down e) (and_l (eqb (m * up e * 1) (0 * 1 * down e)) (eqb (m * up e * 1) 0) h))
-abs_zero (fin false m e) f h = zero_is m e false f (eqb→eq (m * up e * 1) (0 * 1 * down e) (and_l (eqb (m * up e * 1) (0 * 1 * down e)) true h))
+pub sign_nan : (x : Float) → is_nan x ≡ true → false ≡ sign_of x
+unfolding is_nan sign_of
+sign_nan nan h = refl
+sign_nan (inf s) h = cc
+sign_nan (fin s m e) h = cc
+
+pub zero-size : (s : Bool) (m : ℕ) (e : ℤ) → T (eq (fin s m e) plus_zero) → m * up e ≡ 0
+unfolding eq
+zero-size s m e t = zero_times (m * up e) (down e) (eqb→eq (m * up e * 1) (0 * 1 * down e) (and_l (eqb (m * up e * 1) (0 * 1 * down e)) _ t))
+  where
+    zero_times : (n d : ℕ) → n * 1 ≡ 0 * d → n ≡ 0
+    zero_times n d h = omega arith
 
 -- a size of 0 is a zero
 is_zero : (m : ℕ) (e : ℤ) → m * up e ≡ 0 → T (eq (fin true m e) plus_zero)
@@ -61,39 +63,6 @@ is_zero m e z = and_i (eqb (m * up e * 1) (0 * 1 * down e)) (eqb (m * up e * 1) 
 
     right : (n : ℕ) → n ≡ 0 → n * 1 ≡ 0
     right n z = omega arith
-
-pub abs_other : (x : Float) → T (not (lt x plus_zero)) → T (not (eq x plus_zero)) → x ≡ abs_of x
-unfolding lt eq abs_of
-abs_other nan a b = refl
-abs_other (inf true) a b = absurd a
-abs_other (inf false) a b = refl
-abs_other (fin false m e) a b = refl
-abs_other (fin true m e) a b = absurd (T_not (eq (fin true m e) plus_zero) b (is_zero m e (no_less (m * up e) (down e) (nltb→le 0 (m * up e * 1 + 0 * 1 * down e) a))))
-
--- ---- the sign
-pub zero-size : (s : Bool) (m : ℕ) (e : ℤ) → T (eq (fin s m e) plus_zero) → m * up e ≡ 0
-unfolding eq
-zero-size s m e t = zero_times (m * up e) (down e) (eqb→eq (m * up e * 1) (0 * 1 * down e) (and_l (eqb (m * up e * 1) (0 * 1 * down e)) _ t))
-  where
-    zero_times : (n d : ℕ) → n * 1 ≡ 0 * d → n ≡ 0
-    zero_times n d h = omega arith
-
-factor : (m u : ℕ) → 0 < u → m * u ≡ 0 → m ≡ 0
-factor zero u p e = refl
-factor (suc m) u p e = absurd (more (suc m * u) (mul-pos (zero-lt-suc m) p) e)
-  where
-    more : (n : ℕ) → 0 < n → n ≡ 0 → ⊥
-    more n p e = omega arith
-
-pub sign_zero : (x : Float) → T (eq x plus_zero) → lt (div binary32 (fin false 1 (pos 0)) x) plus_zero ≡ sign_of x
-unfolding sign_of lt div eq
-sign_zero nan h = absurd h
-sign_zero (inf s) h = absurd h
-sign_zero (fin s m e) h = subst (λ (z : ℕ). lt (div binary32 (fin false 1 (pos 0)) (fin s z e)) plus_zero ≡ s) (sym (factor m (up e) (up_pos e) (zero-size s m e h))) (go s)
-  where
-    go : (s : Bool) → lt (div binary32 (fin false 1 (pos 0)) (fin s 0 e)) plus_zero ≡ s
-    go false = refl
-    go true = refl
 
 pub sign_other : (x : Float) → T (not (eq x plus_zero)) → lt x plus_zero ≡ sign_of x
 unfolding sign_of lt

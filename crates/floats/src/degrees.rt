@@ -4,11 +4,11 @@ ghost use Rattle.std.specs.Float.{fin, binary32};
 ghost use Rattle.std.specs.Float.Ieee.{lt, rem, div, of_int};
 ghost use Rattle.floats.specs.Degrees.{radians_of, rem_euclid360, turn};
 
-// x.to_radians(): the literal is the f32 of bits 3C8EFA35.
+// By the f32 of bits 3C8EFA35.
 pub fn radians(x: f32) -> f32
     ensures { result ≡ radians_of x }
 {
-    x * 0.01745329238474369
+    x.to_radians()
 }
 
 // n * k 32768ths of a degree, by a turn, which is 11796480 of them.

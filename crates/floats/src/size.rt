@@ -6,13 +6,7 @@ ghost use Rattle.floats.specs.Size.{abs_of, max_of, sign_of};
 pub fn abs(x: f32) -> f32
     ensures { result ≡ abs_of x }
 {
-    if x < 0.0 {
-        return -x;
-    }
-    if x == 0.0 {
-        return 0.0;
-    }
-    x
+    x.abs()
 }
 
 // a.max(b)
@@ -28,12 +22,12 @@ pub fn max(a: f32, b: f32) -> f32
     a
 }
 
-// x.is_sign_negative(), and false for a NaN: a zero's sign shows in its reciprocal.
+// x.is_sign_negative(), and false for a NaN.
 pub fn is_sign_negative(x: f32) -> bool
     ensures { result ≡ sign_of x }
 {
-    if x == 0.0 {
-        return 1.0 / x < 0.0;
+    if x.is_nan() {
+        return false;
     }
-    x < 0.0
+    x.is_sign_negative()
 }

@@ -7,7 +7,7 @@ use Rattle.curves.specs.Corners.{corner_of}
 use Rattle.curves.specs.declared.bulges.Side.{Side}
 use Rattle.curves.specs.Bulges.{part_on, has_at}
 use Rattle.curves.specs.declared.pies.Pie.{Pie}
-use Rattle.curves.specs.Pies.{degrees_of, covers, Asked}
+use Rattle.curves.specs.Pies.{is_all, degrees_of, covers, Asked}
 use Rattle.pixels.specs.declared.Canvas.{Canvas}
 use Rattle.canvas.specs.Plot.{Point, at}
 use Rattle.ovals.specs.Strokes.{stroke}
@@ -51,6 +51,6 @@ pub record Lies (p n x0 x1 : ℕ) : Type 0 where
 
 -- Of a part sweep: its degrees are known, and it may be asked for the pixels of a box with a lifted corner.
 pub record Asks (k : Pie) (p w q h : ℕ) : Type 0 where
-  pub degrees : k.sweep.all ≡ false → k.degrees ≡ degrees_of k.sweep
-  pub asked : k.sweep.all ≡ false → (i j : ℕ) → i ≤ 32767 → j ≤ 32767
+  pub degrees : is_all k.sweep ≡ false → k.degrees ≡ degrees_of k.sweep
+  pub asked : is_all k.sweep ≡ false → (i j : ℕ) → i ≤ 32767 → j ≤ 32767
       → p ≤ i + 2147483648 → i + 2147483648 < p + w → q ≤ j + 2147483648 → j + 2147483648 < q + h → Asked k i j

@@ -15,7 +15,7 @@ ghost use Rattle.ovals.specs.Sift.{sifts, sifted, land, region_at, Lies, Asks};
 use canvas::span::overlap;
 use canvas::{Clip, Tally};
 use curves::bulges::{Side, first, part, pie_side, round_side};
-use curves::pies::{Pie, all_round, next};
+use curves::pies::{Pie, Sweep, all_round, next};
 use pixels::Canvas;
 use pixels::rows::{Span, ink_row};
 use words::Ink;
@@ -84,8 +84,7 @@ fn swept_row(
     requires { (Sized canvas b.old) × ((x0 ≤ x1) × ((x1 ≤ canvas.width) × ((y < canvas.height) × ((Fits (land canvas (sifts (covers k) (inked ink) (run x0 (x1 - x0)) y) (work b.old t)).tally) × (Swept k x0 x1 y))))) }
     ensures { work b.new result ≡ land canvas (sifts (covers k) (inked ink) (run x0 (x1 - x0)) y) (work b.old t) }
 {
-    let s = k.sweep;
-    if s.all {
+    if let Sweep::All = k.sweep {
         ink_row(canvas, b, y, x0, x1, ink);
         let landed = t.landed + (x1 - x0) as u64;
         return Tally { landed };

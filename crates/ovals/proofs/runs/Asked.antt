@@ -6,7 +6,7 @@ use Rattle.curves.specs.declared.bulges.Side.{Side}
 use Rattle.curves.specs.declared.pies.Pie.{Pie}
 use Rattle.curves.specs.Bulges.{pie_side}
 use Rattle.curves.specs.Oval.{offset, oval_of}
-use Rattle.curves.specs.Pies.{pie_of, all_round, Asked, Swept, Inside}
+use Rattle.curves.specs.Pies.{is_all, pie_of, all_round, Asked, Swept, Inside}
 use Rattle.curves.proofs.Domain.{in_domain}
 use Rattle.canvas.specs.Clip.{within}
 use Rattle.canvas.specs.Walk.{lowered}
@@ -31,8 +31,8 @@ asks_row k p n q m x0 x1 y0 y1 y s lx ly f g h l =
 pub asks_none : (k : Pie) (p w q h : ℕ) → k ≡ all_round → Asks k p w q h
 asks_none k p w q h e = record { degrees = λ f. absurd (other f); asked = λ f. absurd (other f) }
   where
-    other : k.sweep.all ≡ false → ⊥
-    other f = subst T (ap (λ (z : Pie). z.sweep.all) (sym e) ∙ f) (unfold all_round in tt)
+    other : is_all k.sweep ≡ false → ⊥
+    other f = subst T (ap (λ (z : Pie). is_all z.sweep) (sym e) ∙ f) (unfold all_round in tt)
 
 pub asks_sides : (k : Pie) (p q w h : ℕ) (sx sy : Side) → sx ≡ pie_side w → sy ≡ pie_side h → Asks k p w q h → Asks k p sx.count q sy.count
 asks_sides k p q w h sx sy e f s = subst (λ (n : ℕ). Asks k p n q sy.count) (sym (count sx w e)) (subst (λ (n : ℕ). Asks k p w q n) (sym (count sy h f)) s)
@@ -53,6 +53,6 @@ inside x w p i a b e l f g =
 pub asks_pie : (k : Pie) (x y : ℤ) (w h : ℕ) (start arc : ℤ) (p q : ℕ) → k ≡ pie_of x y w h start arc → Shaped x y w h → lowered p ≡ x → lowered q ≡ y → Asks k p w q h
 asks_pie k x y w h start arc p q e s a b = subst (λ (z : Pie). Asks z p w q h) (sym e) (record { degrees = λ f. unfold pie_of in refl; asked = asked })
   where
-    asked : (pie_of x y w h start arc).sweep.all ≡ false → (i j : ℕ) → i ≤ 32767 → j ≤ 32767
+    asked : is_all (pie_of x y w h start arc).sweep ≡ false → (i j : ℕ) → i ≤ 32767 → j ≤ 32767
         → p ≤ i + 2147483648 → i + 2147483648 < p + w → q ≤ j + 2147483648 → j + 2147483648 < q + h → Asked (pie_of x y w h start arc) i j
     asked f i j l m t u v o = unfold pie_of oval_of offset in in_domain x y w h i j (inside x w p i s.left s.wide a l t u) (inside y h q j s.top s.high b m v o)

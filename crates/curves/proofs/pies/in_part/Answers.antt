@@ -7,20 +7,19 @@ use Rattle.curves.proofs.pies.in_part.Goals as goal
 pub begins-at-requires : goal.begins-at-requires
 begins-at-requires c =
     let a = c.args in
-    (from-few a.s a.d c.requires.0, subst (λ (n : ℕ). n ≤ 7) (sym c.eighth.ensures) (eighth_few (neg a.dy) a.dx))
+    let d = c.in-Some in
+    (from-few a.start a.length a.degrees c.requires.0 d.d d.is, subst (λ (n : ℕ). n ≤ 7) (sym c.eighth.ensures) (eighth_few (neg a.dy) a.dx))
 
 pub returns-then-at-d : goal.returns-then-at-d
 returns-then-at-d c =
     let a = c.args in
-    all_of a.s a.d c.requires.0 c.if-d.true a.dx a.dy c.requires.1 _ _ c.eighth.ensures
-    c.begins-at.ensures c.if-at-lt315.true c.if-at-d.true
+    let d = c.in-Some in
+    all_of a.start a.length a.degrees c.requires.0 d.d d.is a.dx a.dy c.requires.1 _ _
+    c.eighth.ensures c.begins-at.ensures c.if-at-lt315.true c.if-at-d.true
 
 pub returns-then-d-at : goal.returns-then-d-at
 returns-then-d-at c =
     let a = c.args in
-    none_of a.s a.d c.requires.0 c.if-d.true a.dx a.dy c.requires.1 _ _
-    c.eighth.ensures c.begins-at.ensures
-    c.if-at-lt315.true c.if-d-at.true
-
-pub returns : goal.returns
-returns c = c.in_arc.ensures
+    let d = c.in-Some in
+    none_of a.start a.length a.degrees c.requires.0 d.d d.is a.dx a.dy c.requires.1 _ _
+    c.eighth.ensures c.begins-at.ensures c.if-at-lt315.true c.if-d-at.true

@@ -1,25 +1,28 @@
 -- `in_sweep` meets its contract, by its cases. Assumes nothing.
+use Rattle.std.proofs.Common.{refl, sym, ap, ◌∙◌}
 use lib.Ieee.{of_bits}
-use Rattle.curves.specs.Pies.{in_sweep, in_arc}
+use Rattle.curves.specs.declared.pies.Sweep.{Sweep}
+use Rattle.curves.specs.Pies.{is_all, degrees_of, in_sweep}
 use Rattle.curves.proofs.pies.in_sweep.Goals as goal
 
-pub returns-then-s : goal.returns-then-s
+pub returns-in-All : goal.returns-in-All
 unfolding in_sweep
-returns-then-s c = rw c.if-s.true
+returns-in-All c = rw c.in-All.is refl
 
-pub returns-then-s-2 : goal.returns-then-s-2
+pub returns-in-Empty : goal.returns-in-Empty
 unfolding in_sweep
-returns-then-s-2 c = rw (c.if-s.false, c.if-s-2.true)
+returns-in-Empty c = rw c.in-Empty.is refl
 
 pub returns-then-dx-dy : goal.returns-then-dx-dy
 unfolding in_sweep of_bits
-returns-then-dx-dy c = rw (c.if-s.false, c.if-s-2.false, c.if-dx-dy.true)
+returns-then-dx-dy c = rw (c.in-Part.is, c.if-dx-dy.true) refl
 
 pub in_part-requires : goal.in_part-requires
 unfolding of_bits
 in_part-requires c =
-    (c.requires.0 c.if-s.false, c.requires.1 c.if-s.false c.if-dx-dy.false)
+    let part = ap is_all c.in-Part.is in
+    (c.requires.0 part ∙ ap degrees_of c.in-Part.is, c.requires.1 part c.if-dx-dy.false)
 
-pub returns : goal.returns
-unfolding in_sweep in_arc of_bits
-returns c = rw (c.if-s.false, c.if-s-2.false, c.if-dx-dy.false) c.in_part.ensures
+pub returns-else-dx-dy : goal.returns-else-dx-dy
+unfolding in_sweep of_bits
+returns-else-dx-dy c = rw (c.in-Part.is, c.if-dx-dy.false) c.in_part.ensures

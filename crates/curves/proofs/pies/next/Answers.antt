@@ -7,9 +7,6 @@ use Rattle.curves.proofs.pies.next.Goals as goal
 pub loop-i-init : goal.loop-i-init
 loop-i-init c = passed_none _ _ _ _ c.requires.0
 
-pub overflow_cast-dx : goal.overflow_cast-dx
-overflow_cast-dx c = record { fits = omega (arith, c.requires.1.0) }
-
 pub in_sweep-requires : goal.in_sweep-requires
 in_sweep-requires c =
     let l = c.loop-i in
@@ -30,4 +27,8 @@ loop-i-preserved c =
     passes (λ k. covers a.p k a.y) a.taken _ _ l.i l.invariant _ c.loop-i-test.true c.in_sweep.ensures c.if-in_sweep-taken.false
 
 pub returns : goal.returns
-returns c = ends _ _ _ _ _ c.loop-i.invariant c.loop-i-test.false
+unfolding covers
+returns c =
+    let a = c.args in
+    let l = c.loop-i in
+    ends (λ k. covers a.p k a.y) a.taken _ _ l.i l.invariant c.loop-i-test.false

@@ -1,5 +1,5 @@
 -- `pie_in` meets its contract: its parts are those of the definition. Assumes nothing.
-use Rattle.std.proofs.Common.{◌≡◌, ℕ, ℤ, ◌∙◌, w32, SFits, to_z, of_z}
+use Rattle.std.proofs.Common.{◌≡◌, ℕ, ℤ, Option, ◌∙◌, w32, SFits, to_z, of_z}
 use mir.ValLaws.{to_z-of_z}
 use lib.Ieee.{Float, binary32, of_int}
 use Rattle.curves.specs.declared.oval.Oval.{Oval}
@@ -11,10 +11,10 @@ use Rattle.curves.specs.Pies.{sweep_of, degrees_of, pie_of}
 use Rattle.curves.proofs.Signs.{as_given}
 use Rattle.curves.proofs.pies.pie_in.Goals as goal
 
-abbrev pie : Oval → Sweep → Degrees → Pie
+abbrev pie : Oval → Sweep → Option Degrees → Pie
 pie o s d = record { oval = o; sweep = s; degrees = d }
 
-made : (x y : ℤ) (w h : ℕ) (start sweep : ℤ) (o : Oval) (from by : Float) (s : Sweep) (d : Degrees) → o ≡ oval_of x y w h → from ≡ of_int binary32 start → by ≡ of_int binary32 sweep
+made : (x y : ℤ) (w h : ℕ) (start sweep : ℤ) (o : Oval) (from by : Float) (s : Sweep) (d : Option Degrees) → o ≡ oval_of x y w h → from ≡ of_int binary32 start → by ≡ of_int binary32 sweep
     → s ≡ sweep_of from by → d ≡ degrees_of s → pie o s d ≡ pie_of x y w h start sweep
 unfolding pie_of
 made x y w h start sweep o from by s d e k l m n = rw (n, m, e, k, l)

@@ -1,7 +1,7 @@
 -- A sweep of all has each pixel.
-use Rattle.std.proofs.Common.{refl}
+use Rattle.std.proofs.Common.{refl, ap}
 use Rattle.words.specs.Ink.{inked}
-use Rattle.curves.specs.Pies.{covers}
+use Rattle.curves.specs.Pies.{is_all, covers}
 use Rattle.curves.proofs.Parts.{covers_all}
 use Rattle.ovals.proofs.runs.Sifts.{all_room, all_lands}
 use Rattle.ovals.proofs.runs.swept_row.Goals as goal
@@ -16,14 +16,14 @@ pub overflow_add-landed : goal.overflow_add-landed
 overflow_add-landed c =
     let a = c.args in
     record {
-      fits = all_room (covers a.k) (inked a.ink) a.y a.x0 a.x1 (λ i. covers_all a.k i a.y c.if-s.true) a.canvas
+      fits = all_room (covers a.k) (inked a.ink) a.y a.x0 a.x1 (λ i. covers_all a.k i a.y (ap is_all c.in-All.is)) a.canvas
           a.b.now a.t c.requires.1.1.1.1.0;
     }
 
-pub returns-then-s : goal.returns-then-s
-returns-then-s c =
+pub returns-in-All : goal.returns-in-All
+returns-in-All c =
     let a = c.args in
-    all_lands (covers a.k) (inked a.ink) a.y a.x0 a.x1 (λ i. covers_all a.k i a.y c.if-s.true) a.canvas a.b.now
+    all_lands (covers a.k) (inked a.ink) a.y a.x0 a.x1 (λ i. covers_all a.k i a.y (ap is_all c.in-All.is)) a.canvas a.b.now
     a.t _ _ c.ink_row.ensures refl
 
 pub sift_row-requires : goal.sift_row-requires
