@@ -77,16 +77,20 @@ pub record Outcome : Type 0 where
 abbrev pub outcome : ℕ → ℕ → List ℕ → Outcome
 outcome s n b = record { status = s; count = n; bytes = b }
 
+-- What a drawing call answers.
+abbrev pub Drawn : Type 0
+Drawn = Result Tally Refusal
+
 -- 01's number and count of each answer.
-unfoldable pub status_of : Result Tally Refusal → ℕ
+unfoldable pub status_of : Drawn → ℕ
 status_of (Err r) = number r
 status_of (Ok t) = 0
 
-unfoldable pub count_of : Result Tally Refusal → ℕ
+unfoldable pub count_of : Drawn → ℕ
 count_of (Err r) = 0
 count_of (Ok t) = t.landed
 
-abbrev pub leaves : Result Tally Refusal → List ℕ → Outcome
+abbrev pub leaves : Drawn → List ℕ → Outcome
 leaves d b = outcome (status_of d) (count_of d) b
 
 -- "0 | accepted | result, count"; a refusal: "count 0, bytes as before"

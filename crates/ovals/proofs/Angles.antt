@@ -1,6 +1,6 @@
 -- What 01 asks of angles, of accepted calls: every point of an arc and of a round outline's corners is drawn with a sine and a cosine within 2 ^ -20, and every arctangent
 -- that a pie asks for meets 01's bounds. Assumes nothing.
-use Rattle.std.proofs.Common.{◌≡◌, ℕ, zero, suc, ◌+◌, ◌*◌, ◌<◌, ◌≤◌, min, max, Bool, true, false, cond, ◌&&◌, ◌||◌, T, eqb, ltb, List, [], ◌∷◌, ◌++◌, length, ℤ, pos, negsuc, ◌+ℤ◌, nat_abs, refl, arith, lit≤, ltb-false}
+use Rattle.std.proofs.Common.{◌≡◌, ℕ, zero, suc, ◌+◌, ◌*◌, ◌<◌, ◌≤◌, min, max, Bool, true, false, cond, ◌&&◌, ◌||◌, T, eqb, ltb, List, [], ◌∷◌, ◌++◌, length, ℤ, pos, negsuc, ◌+ℤ◌, nat_abs, refl, arith, lit≤, ltb-false, Ok}
 use lib.Signed.{le_z, lt_z}
 use lib.Ieee.{Float, binary32, neg, add, mul, lt, fits}
 use lib.Ieee.Fits.{add-fits}
@@ -24,7 +24,6 @@ use Rattle.curves.proofs.Domain.{in_domain}
 use Rattle.pixels.specs.declared.Canvas.{Canvas}
 use Rattle.canvas.specs.declared.Clip.{Clip}
 use Rattle.canvas.specs.declared.Refusal.TheVariants.{Angle}
-use Rattle.canvas.specs.declared.faults.Verdict.TheVariants.{Sound}
 use Rattle.canvas.specs.Faults.{or_else, verdict}
 use Rattle.canvas.specs.Clip.{within}
 use Rattle.canvas.specs.Plot.{Point}
@@ -36,15 +35,15 @@ use Rattle.ovals.specs.Call.{draw_arc, draw_round_rect, fill_arc}
 use Rattle.ovals.proofs.faults.Bounds.{arc-known}
 
 -- each of a list's points is such a one
-pub data Each (Ok : Point → Type 0) : List Point → Type 0 where
-  none : Each Ok []
-  also : {p : Point} {ps : List Point} → Ok p → Each Ok ps → Each Ok (p ∷ ps)
+pub data Each (Good : Point → Type 0) : List Point → Type 0 where
+  none : Each Good []
+  also : {p : Point} {ps : List Point} → Good p → Each Good ps → Each Good (p ∷ ps)
 
-append : {Ok : Point → Type 0} {ps qs : List Point} → Each Ok ps → Each Ok qs → Each Ok (ps ++ qs)
+append : {Good : Point → Type 0} {ps qs : List Point} → Each Good ps → Each Good qs → Each Good (ps ++ qs)
 append none b = b
 append (also o a) b = also o (append a b)
 
-every : {Ok Fine : Point → Type 0} → ((p : Point) → Ok p → Fine p) → {ps : List Point} → Each Ok ps → Each Fine ps
+every : {Good Fine : Point → Type 0} → ((p : Point) → Good p → Fine p) → {ps : List Point} → Each Good ps → Each Fine ps
 every f none = none
 every f (also {p} o a) = also (f p o) (every f a)
 
@@ -88,7 +87,7 @@ in_turns : (a : ℤ) → outside (negsuc 719) (pos 720) a ≡ false → nat_abs 
 in_turns (pos n) e = ltb-false 720 n e
 in_turns (negsuc n) e = let p = neither (ltb 719 n) false e in omega (arith, ltb-false 719 n p.0)
 
-turns : (x y : ℤ) (w h : ℕ) (start sweep : ℤ) → arc_fault x y w h start sweep ≡ Sound → (nat_abs start ≤ 720) × (nat_abs sweep ≤ 720)
+turns : (x y : ℤ) (w h : ℕ) (start sweep : ℤ) → arc_fault x y w h start sweep ≡ Ok tt → (nat_abs start ≤ 720) × (nat_abs sweep ≤ 720)
 unfolding arc_fault angle_fault
 turns x y w h start sweep e =
     let f = (both_sound (angle_fault start sweep) (shape_fault x y w h) e).0 in
@@ -97,7 +96,7 @@ turns x y w h start sweep e =
 
 -- ---- an accepted arc
 pub arc-drawn : (v : Canvas) (b : List ℕ) (x y : ℤ) (w h : ℕ) (start sweep : ℤ) (color : Color) (clip : Clip)
-    → or_else (verdict v (length b)) (fault_of (draw_arc x y w h start sweep color clip)) ≡ Sound → Each (Drawn (oval_of x y w h)) (arc v x y w h start sweep)
+    → or_else (verdict v (length b)) (fault_of (draw_arc x y w h start sweep color clip)) ≡ Ok tt → Each (Drawn (oval_of x y w h)) (arc v x y w h start sweep)
 unfolding arc
 arc-drawn v b x y w h start sweep color clip e =
     let f = both_sound (verdict v (length b)) (arc_fault x y w h start sweep) e in
@@ -117,7 +116,7 @@ pub record DrawnCorner (c : Corners) (p : Point) : Type 0 where
   pub drawn : Drawn (corner_of c right bottom) p
 
 pub quarters-drawn : (v : Canvas) (b : List ℕ) (x y : ℤ) (w h aw ah : ℕ) (color : Color) (clip : Clip)
-    → or_else (verdict v (length b)) (fault_of (draw_round_rect x y w h aw ah color clip)) ≡ Sound → (c : Corners) → Each (DrawnCorner c) (quarters v c)
+    → or_else (verdict v (length b)) (fault_of (draw_round_rect x y w h aw ah color clip)) ≡ Ok tt → (c : Corners) → Each (DrawnCorner c) (quarters v c)
 unfolding quarters
 quarters-drawn v b x y w h aw ah color clip e c =
     append (one true false (pos 0) (lit≤ tt)) (append (one false false (pos 90) (lit≤ tt)) (append (one false true (pos 180) (lit≤ tt)) (one true true (pos 270) (lit≤ tt))))
@@ -137,7 +136,7 @@ unfolding within
 inside x w n i a b c l e = let p = both (le_z x (pos i)) (lt_z (pos i) (x +ℤ pos w)) e in record { corner = a; side = b; place = omega arith; from = p.0; to = p.1 }
 
 pub pie-asked : (v : Canvas) (b : List ℕ) (x y : ℤ) (w h : ℕ) (start sweep : ℤ) (color : Color) (clip : Clip)
-    → or_else (verdict v (length b)) (fault_of (fill_arc x y w h start sweep color clip)) ≡ Sound
+    → or_else (verdict v (length b)) (fault_of (fill_arc x y w h start sweep color clip)) ≡ Ok tt
     → (i j : ℕ) → i < v.width → j < v.height → within x w (pos i) ≡ true → within y h (pos j) ≡ true
     → let dx = offset (pos i) x w in let dy = offset (pos j) y h in lt (add binary32 (mul binary32 dx dx) (mul binary32 dy dy)) one ≡ false → Arctangent (neg dy) dx (arctangent_of (neg dy) dx)
 pie-asked v b x y w h start sweep color clip e i j hi hj xi yj far =

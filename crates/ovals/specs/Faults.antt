@@ -1,8 +1,7 @@
 -- Which angles and boxes are refused.
 use Rattle.std.specs.Prelude.{ℕ, ◌≤◌, Bool, ◌||◌, ℤ, pos, negsuc, int_lt, nat_lt, unsigned_abs}
 use Rattle.canvas.specs.declared.Refusal.TheVariants.{Angle, Shape}
-use Rattle.canvas.specs.declared.faults.Verdict.{Verdict}
-use Rattle.canvas.specs.Faults.{fault, or_else}
+use Rattle.canvas.specs.Faults.{Verdict, fault, or_else}
 
 -- Below the one or above the other.
 abbrev pub outside : ℤ → ℤ → ℤ → Bool

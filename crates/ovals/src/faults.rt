@@ -3,7 +3,6 @@ ghost use Rattle.std.specs.Prelude.{◌≡◌};
 ghost use Rattle.ovals.specs.Faults.{outside, angle_fault, shape_fault, arc_fault};
 
 use canvas::Refusal;
-use canvas::faults::{Verdict, or_else};
 
 fn beyond(a: i32, low: i32, high: i32) -> bool
     ensures { result ≡ outside low high a }
@@ -14,40 +13,41 @@ fn beyond(a: i32, low: i32, high: i32) -> bool
     high < a
 }
 
-fn angle_fault(start: i32, arc: i32) -> Verdict
+fn angle_fault(start: i32, arc: i32) -> Result<(), Refusal>
     ensures { result ≡ angle_fault start arc }
 {
     if beyond(start, -720, 720) {
-        return Verdict::Faulty(Refusal::Angle);
+        return Err(Refusal::Angle);
     }
     if beyond(arc, -720, 720) {
-        return Verdict::Faulty(Refusal::Angle);
+        return Err(Refusal::Angle);
     }
-    Verdict::Sound
+    Ok(())
 }
 
 // The fault of a round rectangle's box.
-pub(crate) fn shape_fault(x: i32, y: i32, w: u32, h: u32) -> Verdict
+pub(crate) fn shape_fault(x: i32, y: i32, w: u32, h: u32) -> Result<(), Refusal>
     ensures { result ≡ shape_fault x y w h }
 {
     if beyond(x, -32768, 32767) {
-        return Verdict::Faulty(Refusal::Shape);
+        return Err(Refusal::Shape);
     }
     if beyond(y, -32768, 32767) {
-        return Verdict::Faulty(Refusal::Shape);
+        return Err(Refusal::Shape);
     }
     if 32767 < w {
-        return Verdict::Faulty(Refusal::Shape);
+        return Err(Refusal::Shape);
     }
     if 32767 < h {
-        return Verdict::Faulty(Refusal::Shape);
+        return Err(Refusal::Shape);
     }
-    Verdict::Sound
+    Ok(())
 }
 
 // The first fault of an arc or a pie.
-pub(crate) fn arc_fault(x: i32, y: i32, w: u32, h: u32, start: i32, arc: i32) -> Verdict
+pub(crate) fn arc_fault(x: i32, y: i32, w: u32, h: u32, start: i32, arc: i32) -> Result<(), Refusal>
     ensures { result ≡ arc_fault x y w h start arc }
 {
-    or_else(angle_fault(start, arc), shape_fault(x, y, w, h))
+    angle_fault(start, arc)?;
+    shape_fault(x, y, w, h)
 }

@@ -12,7 +12,7 @@ ghost use Rattle.canvas.specs.Walk.{work, Ready, Did};
 use crate::faults::{arc_fault, shape_fault};
 use crate::runs::{arcs_in, sector_in};
 use canvas::boxes::{fill_in, is_empty};
-use canvas::faults::{Verdict, judge, or_else};
+use canvas::faults::judge;
 use canvas::span::lift;
 use canvas::{Clip, Drawn, Tally};
 use curves::corners::Corners;
@@ -60,29 +60,11 @@ pub fn fill_arc(
 ) -> Drawn
     ensures { leaves result bytes.new ≡ call canvas (fill_arc x y w h start arc color clip) bytes.old }
 {
-    let fault = or_else(
-        judge(canvas, bytes.len()),
-        arc_fault(x, y, w, h, start, arc),
-    );
-    match fault {
-        Verdict::Faulty(r) => Drawn::Refused(r),
-        Verdict::Sound => {
-            let ink = words::plot_ink(canvas.format, canvas.xor, color);
-            Drawn::Done(pie_in(
-                canvas,
-                bytes,
-                x,
-                y,
-                w,
-                h,
-                start,
-                arc,
-                ink,
-                clip,
-                Tally { landed: 0 },
-            ))
-        }
-    }
+    judge(canvas, bytes.len())?;
+    arc_fault(x, y, w, h, start, arc)?;
+    let ink = words::plot_ink(canvas.format, canvas.xor, color);
+    let t = Tally { landed: 0 };
+    Ok(pie_in(canvas, bytes, x, y, w, h, start, arc, ink, clip, t))
 }
 
 // The corners of a box with these arc sizes.
@@ -147,24 +129,9 @@ pub fn fill_round_rect(
 ) -> Drawn
     ensures { leaves result bytes.new ≡ call canvas (fill_round_rect x y w h aw ah color clip) bytes.old }
 {
-    let fault = or_else(judge(canvas, bytes.len()), shape_fault(x, y, w, h));
-    match fault {
-        Verdict::Faulty(r) => Drawn::Refused(r),
-        Verdict::Sound => {
-            let ink = words::plot_ink(canvas.format, canvas.xor, color);
-            Drawn::Done(round_in(
-                canvas,
-                bytes,
-                x,
-                y,
-                w,
-                h,
-                aw,
-                ah,
-                ink,
-                clip,
-                Tally { landed: 0 },
-            ))
-        }
-    }
+    judge(canvas, bytes.len())?;
+    shape_fault(x, y, w, h)?;
+    let ink = words::plot_ink(canvas.format, canvas.xor, color);
+    let t = Tally { landed: 0 };
+    Ok(round_in(canvas, bytes, x, y, w, h, aw, ah, ink, clip, t))
 }

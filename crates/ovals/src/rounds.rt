@@ -15,7 +15,7 @@ use crate::faults::shape_fault;
 use crate::fills::{corners_of, is_plain};
 use crate::strokes::half_in;
 use canvas::boxes::{edges_in, outline_in};
-use canvas::faults::{Verdict, judge, or_else};
+use canvas::faults::judge;
 use canvas::span::lift;
 use canvas::{Clip, Drawn, Tally};
 use curves::corners::{Corners, inset};
@@ -86,24 +86,9 @@ pub fn draw_round_rect(
 ) -> Drawn
     ensures { leaves result bytes.new ≡ call canvas (draw_round_rect x y w h aw ah color clip) bytes.old }
 {
-    let fault = or_else(judge(canvas, bytes.len()), shape_fault(x, y, w, h));
-    match fault {
-        Verdict::Faulty(r) => Drawn::Refused(r),
-        Verdict::Sound => {
-            let ink = words::plot_ink(canvas.format, canvas.xor, color);
-            Drawn::Done(round_outline_in(
-                canvas,
-                bytes,
-                x,
-                y,
-                w,
-                h,
-                aw,
-                ah,
-                ink,
-                clip,
-                Tally { landed: 0 },
-            ))
-        }
-    }
+    judge(canvas, bytes.len())?;
+    shape_fault(x, y, w, h)?;
+    let ink = words::plot_ink(canvas.format, canvas.xor, color);
+    let t = Tally { landed: 0 };
+    Ok(round_outline_in(canvas, bytes, x, y, w, h, aw, ah, ink, clip, t))
 }

@@ -13,7 +13,7 @@ ghost use Rattle.ovals.specs.Sift.{half};
 
 use crate::faults::arc_fault;
 use canvas::boxes::is_empty;
-use canvas::faults::{Verdict, judge, or_else};
+use canvas::faults::judge;
 use canvas::plot::dab;
 use canvas::span::window;
 use canvas::{Clip, Drawn, Tally};
@@ -153,29 +153,11 @@ pub fn draw_arc(
 ) -> Drawn
     ensures { leaves result bytes.new ≡ call canvas (draw_arc x y w h start arc color clip) bytes.old }
 {
-    let fault = or_else(
-        judge(canvas, bytes.len()),
-        arc_fault(x, y, w, h, start, arc),
-    );
-    match fault {
-        Verdict::Faulty(r) => Drawn::Refused(r),
-        Verdict::Sound => {
-            let ink = words::plot_ink(canvas.format, canvas.xor, color);
-            Drawn::Done(arc_in(
-                canvas,
-                bytes,
-                x,
-                y,
-                w,
-                h,
-                start,
-                arc,
-                ink,
-                clip,
-                Tally { landed: 0 },
-            ))
-        }
-    }
+    judge(canvas, bytes.len())?;
+    arc_fault(x, y, w, h, start, arc)?;
+    let ink = words::plot_ink(canvas.format, canvas.xor, color);
+    let t = Tally { landed: 0 };
+    Ok(arc_in(canvas, bytes, x, y, w, h, start, arc, ink, clip, t))
 }
 
 // The plots of the two upper quarters at the corners of a round rectangle, or of the two lower ones, each from its angle in

@@ -1,4 +1,5 @@
 -- From the contracts of the calls to the answers.
+use Rattle.std.specs.Prelude.{Option, Result}
 use mathlib.Core.List.{List, ◌++◌}
 use mathlib.Core.Path.{◌≡◌, sym, ap, ◌∙◌}
 use Prim.Native.Nat.{ℕ, ◌-◌, ◌*◌, ◌≤◌, min}
@@ -11,14 +12,14 @@ use lib.Seq.{take_all}
 use Rattle.words.specs.declared.Color.{Color}
 use Rattle.pixels.specs.declared.Canvas.{Canvas}
 use Rattle.canvas.specs.declared.Clip.{Clip}
-use Rattle.canvas.specs.declared.Drawn.{Drawn}
-use Rattle.canvas.specs.declared.Pixel.{Pixel}
-use Rattle.canvas.specs.Call.{leaves, status_of, count_of}
+use Rattle.canvas.specs.declared.Refusal.{Refusal}
+use Rattle.canvas.specs.Call.{Drawn, leaves, status_of, count_of}
 use Rattle.canvas.specs.Look.{reads, pixel_at, Reading}
 use Rattle.lbmp.specs.Call.{outcome, reading, decoding}
 use Rattle.lbmp.specs.Call.{Reading as Judgement}
 use Rattle.lbmp.specs.Call.{reads as judgedAs}
-use Rattle.lbmp.specs.declared.Judged.{Judged}
+use Rattle.lbmp.specs.declared.Image.{Image}
+use Rattle.lbmp.specs.declared.Refusal.{Refusal as Fault}
 use Rattle.cases.specs.declared.case.Case.{Case}
 use Rattle.cases.specs.declared.answer.Answer.{Answer}
 use Rattle.cases.specs.declared.answer.Found.TheVariants as found
@@ -37,7 +38,7 @@ drew-is {b'} o n v image b d ea ec ek h ex e =
     let h' : leaves d b' ≡ drawn_by o n v (color_at n (clip_start o - 4)) (clip_at n (clip_start o)) image b = rw ea at (rw (ec, ek) at h) in
     rw (e, ex) (ap (drew o) h')
 
-pub looked-is : {a : Answer} {h : ℕ} {x y x' y' : ℤ} (v : Canvas) (b : List ℕ) (p : Pixel) → x ≡ x' → y ≡ y'
+pub looked-is : {a : Answer} {h : ℕ} {x y x' y' : ℤ} (v : Canvas) (b : List ℕ) (p : Result (Option Color) Refusal) → x ≡ x' → y ≡ y'
     → reads p ≡ pixel_at v b x y → h ≡ hash_of b → a ≡ looked (reads p) h → a ≡ looked (pixel_at v b x' y') (hash_of b)
 looked-is {h = w} {x} {y} {x'} {y'} v b p ex ey h eh e =
     let h' : reads p ≡ pixel_at v b x' y' = rw (ex, ey) at h in
@@ -60,7 +61,7 @@ module _ {A : Type 0} (k n : ℕ) (l : List A) (e : n ≡ min k (length l)) wher
   dropped = drop_by (dec_le k (length l))
 
 -- The words that were written, and the answer.
-pub decoded-is : {s w h c n x : ℕ} {ws' : List ℕ} (file ws : List ℕ) (j : Judged) → outcome (judgedAs j) ws' ≡ decoding file ws
+pub decoded-is : {s w h c n x : ℕ} {ws' : List ℕ} (file ws : List ℕ) (j : Result Image Fault) → outcome (judgedAs j) ws' ≡ decoding file ws
     → reading s w h c ≡ judgedAs j → n ≡ min (w * h) (length ws') → x ≡ hash_of (all_bytes (take n ws'))
     → (answer op.lbmp s (found.Image w h c) x, ws') ≡ decoded_by (decoding file ws)
 unfolding decoded

@@ -1,10 +1,11 @@
 -- What answers a case, and what it leaves.
-use Rattle.std.specs.Prelude.{cond, ◌||◌, List, ◌++◌, ℕ, ◌-◌, ◌*◌, eqb, take, drop}
+use Rattle.std.specs.Prelude.{cond, ◌||◌, List, ◌++◌, ℕ, ◌-◌, ◌*◌, eqb, take, drop, Option, Some, None}
+use Rattle.words.specs.declared.Color.{Color}
 use Rattle.words.specs.Format.{argb}
 use Rattle.words.specs.Word.{from_color}
 use Rattle.pixels.specs.declared.Canvas.{Canvas}
 use Rattle.canvas.specs.Call.{Outcome}
-use Rattle.canvas.specs.Look.{Seen, nothing, seen, Reading, pixel_at}
+use Rattle.canvas.specs.Look.{Reading, pixel_at}
 use Rattle.lbmp.specs.Call.{decoding, Outcome as Decoded}
 use Rattle.res.specs.Search.{first_icon, icon_pixels, reads}
 use Rattle.cases.specs.declared.case.Case.{Case}
@@ -27,9 +28,9 @@ unfoldable pub counted : ℕ → Outcome → Answer
 counted o r = told o r.status r.count (hash_of r.bytes)
 
 -- "`get` has `argb=N` in the place of count, or `none`."
-unfoldable pub argb_of : Seen → Found
-argb_of nothing = found.Nothing
-argb_of (seen c) = found.Argb (from_color argb c)
+unfoldable pub argb_of : Option Color → Found
+argb_of None = found.Nothing
+argb_of (Some c) = found.Argb (from_color argb c)
 
 abbrev pub looked : Reading → ℕ → Answer
 looked r h = answer op.get r.status (argb_of r.color) h

@@ -10,11 +10,12 @@ ghost use Rattle.replies.specs.Answers.{told, drawn, drew, looked, decoded_by, b
 
 use crate::calls::call;
 use crate::numbers::{clip, clip_at, color, int, sized, word};
-use canvas::{Drawn, Pixel};
+use canvas::{Drawn, Refusal};
 use cases::{Answer, Case, Found, GET, LBMP, RES};
 use lbmp::Judged;
 use pixels::Canvas;
 use res::Icon;
+use words::Color;
 
 // What answers a drawing call.
 fn counted_answer(op: u64, d: Drawn, hash: u64) -> Answer
@@ -22,8 +23,8 @@ fn counted_answer(op: u64, d: Drawn, hash: u64) -> Answer
 {
     Answer {
         name: op,
-        status: d.status(),
-        found: Found::Count(d.count()),
+        status: canvas::status(d),
+        found: Found::Count(canvas::count(d)),
         hash,
     }
 }
@@ -41,23 +42,23 @@ fn draw(op: u64, n: [u32; 16], v: Canvas, image: &[u8], bytes: &mut [u8]) -> Ans
 }
 
 // What answers the reading of a pixel.
-fn seen(p: Pixel, hash: u64) -> Answer
+fn seen(p: Result<Option<Color>, Refusal>, hash: u64) -> Answer
     ensures { result ≡ looked (reads p) hash }
 {
     match p {
-        Pixel::Refused(r) => Answer {
+        Err(r) => Answer {
             name: GET,
             status: r.number(),
             found: Found::Nothing,
             hash,
         },
-        Pixel::Nothing => Answer {
+        Ok(None) => Answer {
             name: GET,
             status: 0,
             found: Found::Nothing,
             hash,
         },
-        Pixel::Of(c) => Answer {
+        Ok(Some(c)) => Answer {
             name: GET,
             status: 0,
             found: Found::Argb(words::from_color(3, c)),
@@ -87,13 +88,13 @@ fn judged(j: Judged) -> Sides
     ensures { reading result.status result.w result.h result.clear ≡ judged_as j }
 {
     match j {
-        Judged::Refused(r) => Sides {
+        Err(r) => Sides {
             status: r.number(),
             w: 0,
             h: 0,
             clear: 0,
         },
-        Judged::Sound(i) => Sides {
+        Ok(i) => Sides {
             status: 0,
             w: i.width,
             h: i.height,
@@ -155,7 +156,7 @@ fn icon(file: &[u8]) -> Answer
     let hash = cases::hash(res::icon_pixels(file));
     let f = res::decode_res(file);
     match f {
-        res::Found::Refused(r) => Answer {
+        Err(r) => Answer {
             name: RES,
             status: r.number(),
             found: Found::Icon {
@@ -165,7 +166,7 @@ fn icon(file: &[u8]) -> Answer
             },
             hash,
         },
-        res::Found::Here(i) => Answer {
+        Ok(i) => Answer {
             name: RES,
             status: 0,
             found: Found::Icon {

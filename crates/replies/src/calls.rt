@@ -35,7 +35,7 @@ fn picture_call(op: u64, n: [u32; 16], v: Canvas, k: Clip, image: &[u8], bytes: 
             let s = sized(n, 4, 8, false);
             images::draw(v, bytes, x, y, w, h, s, image, int(n, 10), int(n, 11), k)
         }
-        _ => Drawn::Done(Tally { landed: 0 }),
+        _ => Ok(Tally { landed: 0 }),
     }
 }
 

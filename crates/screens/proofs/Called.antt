@@ -16,8 +16,7 @@ use Rattle.words.proofs.Color.TheLaws as color_laws
 use Rattle.words.proofs.Laws.{Channels}
 use Rattle.pixels.specs.declared.Canvas.{Canvas}
 use Rattle.canvas.specs.declared.Clip.{Clip}
-use Rattle.canvas.specs.declared.Drawn.{Drawn}
-use Rattle.canvas.specs.Call.{Call, put_pixel, draw_line, draw_rect, fill_rect, invert_rect, Outcome, leaves, call}
+use Rattle.canvas.specs.Call.{Call, put_pixel, draw_line, draw_rect, fill_rect, invert_rect, Outcome, Drawn, leaves, call}
 use Rattle.canvas.specs.Call.{draw as draw_call}
 use Rattle.ovals.specs.Call.{draw_arc, fill_arc, draw_round_rect, fill_round_rect}
 use Rattle.canvas.proofs.Determined.{leaves-same}

@@ -9,8 +9,7 @@ use denote.MutBor.{MutBor}
 use Rattle.words.specs.Format.{argb}
 use Rattle.words.proofs.Reading.{read_channels}
 use Rattle.pixels.specs.declared.Canvas.{Canvas}
-use Rattle.canvas.specs.declared.Drawn.{Drawn}
-use Rattle.canvas.specs.Call.{Call, put_pixel, draw_line, draw_rect, fill_rect, invert_rect, Outcome, status_of, count_of, call}
+use Rattle.canvas.specs.Call.{Call, put_pixel, draw_line, draw_rect, fill_rect, invert_rect, Outcome, Drawn, status_of, count_of, call}
 use Rattle.canvas.specs.Call.{draw as draw_call}
 use Rattle.ovals.specs.Call.{draw_arc, fill_arc, draw_round_rect, fill_round_rect}
 use Rattle.canvas.proofs.Reverse.{Colored}

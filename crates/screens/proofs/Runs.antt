@@ -1,5 +1,6 @@
 -- Any order, and taking away, of functions that are run: each step of a run is a function's own contract, held between entry and exit.
 -- A run leaves what its calls leave, and the rest is in Reverse and Stains. Called has the public functions, Linked those that people link.
+use Rattle.std.specs.Prelude.{Ok, Err}
 use mathlib.Core.Path.{◌≡◌, refl, sym, ap, ap₂, ◌∙◌}
 use mathlib.Core.Bool.{Bool, true, false, cond, not}
 use mathlib.Core.List.{List, [], ◌∷◌, ◌++◌, map, zip, zip_with, Permᴰ, Mem}
@@ -17,16 +18,12 @@ use Rattle.words.specs.Ink.{keeps_alpha, settled}
 use Rattle.words.specs.Word.{to_color, color, level5, level6}
 use Rattle.pixels.specs.declared.Canvas.{Canvas}
 use Rattle.canvas.specs.declared.Clip.{Clip}
-use Rattle.canvas.specs.declared.Drawn.{Drawn}
-use Rattle.canvas.specs.declared.Drawn.TheVariants.{Refused, Done}
 use Rattle.canvas.specs.declared.Refusal.{Refusal}
-use Rattle.canvas.specs.declared.faults.Verdict.{Verdict}
-use Rattle.canvas.specs.declared.faults.Verdict.TheVariants.{Sound, Faulty}
 use Rattle.pixels.specs.Bytes.{form, load_at, Tail, On}
 use Rattle.pixels.specs.Hits.{Hit, paint}
-use Rattle.canvas.specs.Faults.{rule_fault, or_else, verdict}
+use Rattle.canvas.specs.Faults.{Verdict, rule_fault, or_else, verdict}
 use Rattle.canvas.specs.Plot.{hits}
-use Rattle.canvas.specs.Call.{Call, clip_of, fault_of, plots, Outcome, status_of, count_of, leaves, ruled, drawing, call}
+use Rattle.canvas.specs.Call.{Call, clip_of, fault_of, plots, Outcome, Drawn, status_of, count_of, leaves, ruled, drawing, call}
 use Rattle.images.specs.Areas.{copy_area}
 use Rattle.canvas.specs.Calls.{after, landings, stains, struck, those, inverts}
 use Rattle.pixels.proofs.bytes.Cells.{Bytes}
@@ -50,16 +47,16 @@ pub record Ran {n : ℕ} (ps : List (ParamKind n)) (z : ResultKind n) (Post : Ou
 -- ---- the answer to a call on n bytes
 
 abbrev said : Verdict → ℕ → Drawn
-said Sound t = Done (record { landed = t })
-said (Faulty r) t = Refused r
+said (Ok u) t = Ok (record { landed = t })
+said (Err r) t = Err r
 
 abbrev pub answer : Canvas → ℕ → Call → Drawn
 answer v n k = said (or_else (verdict v n) (fault_of k)) (length (hits v (clip_of k) (plots v k)))
 
 answered : (f : Verdict) (t : ℕ) (p b : List ℕ) → ruled f t p b ≡ leaves (said f t) (ruled f t p b).bytes
 unfolding status_of count_of
-answered Sound t p b = refl
-answered (Faulty r) t p b = refl
+answered (Ok u) t p b = refl
+answered (Err r) t p b = refl
 
 pub call_answers : (v : Canvas) (k : Call) (b : List ℕ) → call v k b ≡ leaves (answer v (length b) k) (call v k b).bytes
 unfolding drawing
@@ -68,8 +65,8 @@ call_answers v k b =
     answered (or_else (verdict v (length b)) (fault_of k)) (length hs) (paint v hs b) b
 
 ruled-length : (f : Verdict) (t : ℕ) (p b : List ℕ) → length p ≡ length b → length (ruled f t p b).bytes ≡ length b
-ruled-length Sound t p b e = e
-ruled-length (Faulty r) t p b e = refl
+ruled-length (Ok u) t p b e = e
+ruled-length (Err r) t p b e = refl
 
 call_length : (v : Canvas) (k : Call) (b : List ℕ) → length (call v k b).bytes ≡ length b
 unfolding drawing
@@ -191,16 +188,16 @@ module _ (M : Maker) {v : Canvas} {ks ls : List Call} {b b' b'' : List ℕ} {ds 
   -- a run and then another, in any order, with XOR on
   module _ (x : v.xor ≡ true) (o : Bytes b) (s : Permᴰ ks ls) (p : Run M v ks b ds b') (q : Run M v ls b' es b'') where
     -- on a canvas that is not refused: the first bytes with the stains of the list
-    pub stained : verdict v (length b) ≡ Sound → b'' ≡ paint v (stains v ks) b
+    pub stained : verdict v (length b) ≡ Ok tt → b'' ≡ paint v (stains v ks) b
     stained e = run_is (run-append p q) ∙ stain.stained v ks ls b x o e (fine p) s
 
     -- the word at every pixel
-    pub words_back : verdict v (length b) ≡ Sound → (i j : ℕ) → On v i j
+    pub words_back : verdict v (length b) ≡ Ok tt → (i j : ℕ) → On v i j
         → load_at v b'' i j ≡ cond (struck (stains v ks) i j) (settled (form v) (load_at v b i j)) (load_at v b i j)
     words_back e i j on = ap (λ (c : List ℕ). load_at v c i j) (run_is (run-append p q)) ∙ stain.words_back v ks ls b x o e (fine p) s i j on
 
     -- where alpha is kept, its colour: the first one, but that alpha is 255 where a point of an alpha other than 0 landed
-    pub colors_back : keeps_alpha (form v) ≡ true → verdict v (length b) ≡ Sound → (i j : ℕ) → On v i j
+    pub colors_back : keeps_alpha (form v) ≡ true → verdict v (length b) ≡ Ok tt → (i j : ℕ) → On v i j
         → seen_at v b'' i j ≡ cond (struck (stains v ks) i j) (opaque (seen_at v b i j)) (seen_at v b i j)
     colors_back a e i j on = ap (to_color (form v)) (words_back e i j on) ∙ go (struck (stains v ks) i j)
       where
@@ -209,7 +206,7 @@ module _ (M : Maker) {v : Canvas} {ks ls : List Call} {b b' b'' : List ℕ} {ds 
         go false = refl
 
     -- where it is not, the first colour
-    pub same_colors : keeps_alpha (form v) ≡ false → verdict v (length b) ≡ Sound → (i j : ℕ) → On v i j → seen_at v b'' i j ≡ seen_at v b i j
+    pub same_colors : keeps_alpha (form v) ≡ false → verdict v (length b) ≡ Ok tt → (i j : ℕ) → On v i j → seen_at v b'' i j ≡ seen_at v b i j
     same_colors a e i j on = ap (to_color (form v)) (words_back e i j on) ∙ go (struck (stains v ks) i j)
       where
         go : (t : Bool) → to_color (form v) (cond t (settled (form v) (load_at v b i j)) (load_at v b i j)) ≡ seen_at v b i j
@@ -217,7 +214,7 @@ module _ (M : Maker) {v : Canvas} {ks ls : List Call} {b b' b'' : List ℕ} {ds 
         go false = refl
 
     -- of Rgb8, the word: the first one, but that the top byte is 0 where an inversion landed
-    pub tops_cleared : form v ≡ rgb8 → verdict v (length b) ≡ Sound → (i j : ℕ) → On v i j
+    pub tops_cleared : form v ≡ rgb8 → verdict v (length b) ≡ Ok tt → (i j : ℕ) → On v i j
         → load_at v b'' i j ≡ cond (struck (landings v (those inverts ks)) i j) (load_at v b i j % 16777216) (load_at v b i j)
     unfolding settled keeps_alpha
     tops_cleared f e i j on =
@@ -226,7 +223,7 @@ module _ (M : Maker) {v : Canvas} {ks ls : List Call} {b b' b'' : List ℕ} {ds 
         (ap (λ (t : Format). settled t (load_at v b i j)) f ∙ zero-add (load_at v b i j % 16777216))
 
     -- where alpha is kept, the word of a pixel on which inversions alone landed, or nothing: the first one
-    pub under_inversions : keeps_alpha (form v) ≡ true → verdict v (length b) ≡ Sound → (i j : ℕ) → On v i j
+    pub under_inversions : keeps_alpha (form v) ≡ true → verdict v (length b) ≡ Ok tt → (i j : ℕ) → On v i j
         → struck (landings v (those (λ k. not (inverts k)) ks)) i j ≡ false → load_at v b'' i j ≡ load_at v b i j
     under_inversions a e i j on z =
         words_back e i j on ∙ ap (λ (t : Bool). cond t (settled (form v) (load_at v b i j)) (load_at v b i j)) (stain.by_drawings v ks i j a z)
@@ -257,14 +254,14 @@ module _ (M : Maker) (v : Canvas) (r : ℕ) where
   looks stop = no_call
   looks (go_on m p) = one-call (M.sided m) (looks p)
 
-  told_alike : (b t : List ℕ) → verdict v (length b) ≡ Sound → verdict (rowed v r) (length t) ≡ Sound → (ks : List Call) → AllSided ks
+  told_alike : (b t : List ℕ) → verdict v (length b) ≡ Ok tt → verdict (rowed v r) (length t) ≡ Ok tt → (ks : List Call) → AllSided ks
       → map (λ k. M.tell (answer v (length b) k)) ks ≡ map (λ k. M.tell (answer (rowed v r) (length t) k)) ks
   told_alike b t f g [] no_call = refl
   told_alike b t f g (k ∷ ks) (one-call e es) =
       let z = same-landed v r b t f g k e in
       ap₂ (λ (a : M.Answer) (l : List M.Answer). a ∷ l) (ap M.tell (sym (ap₂ said z.0 z.1))) (told_alike b t f g ks es)
 
-  pub same-picture : {ks : List Call} {b b' t t' : List ℕ} {ds es : List M.Answer} → Bytes b → Bytes t → verdict v (length b) ≡ Sound → verdict (rowed v r) (length t) ≡ Sound
+  pub same-picture : {ks : List Call} {b b' t t' : List ℕ} {ds es : List M.Answer} → Bytes b → Bytes t → verdict v (length b) ≡ Ok tt → verdict (rowed v r) (length t) ≡ Ok tt
       → Alike v b (rowed v r) t → Run M v ks b ds b' → Run M (rowed v r) ks t es t' → (ds ≡ es) × Alike v b' (rowed v r) t'
   same-picture {ks} {b} {b'} {t} {t'} o i f g a p q = (
     run_answers p ∙ told_alike b t f g ks (looks p) ∙ sym (run_answers q),
@@ -288,8 +285,8 @@ module _ (M : Maker) (v : Canvas) (r : ℕ) (same : rule_fault (ruled_by v r) �
       (run_answers p ∙ sym (told_by_rules (length b) ks s) ∙ sym (run_answers q), run_is p ∙ sym (after_unasked v r same ks b x s) ∙ sym (run_is q))
 
 -- on a canvas that is refused, for any run, and so for two: every answer is that refusal, and the bytes are as before
-pub all_refused : (M : Maker) {v : Canvas} {ks : List Call} {b b' : List ℕ} {ds : List M.Answer} {r : Refusal} → verdict v (length b) ≡ Faulty r → Run M v ks b ds b'
-    → (ds ≡ map (λ k. M.tell (Refused r)) ks) × (b' ≡ b)
+pub all_refused : (M : Maker) {v : Canvas} {ks : List Call} {b b' : List ℕ} {ds : List M.Answer} {r : Refusal} → verdict v (length b) ≡ Err r → Run M v ks b ds b'
+    → (ds ≡ map (λ k. M.tell (Err r)) ks) × (b' ≡ b)
 unfolding or_else
 all_refused M {v} {ks} {b} {r = r} e p = (
   run_answers p ∙ ap (λ (f : Verdict). map (λ k. M.tell (said (or_else f (fault_of k)) (length (hits v (clip_of k) (plots v k))))) ks) e,

@@ -1,4 +1,5 @@
 -- From the canvas's answers to C's records; a signed argument reaches a callee as `to_z w (of_z w x)`.
+use Rattle.std.specs.Prelude.{Option, Result}
 use mathlib.Core.Path.{◌≡◌, sym, ap, ◌∙◌}
 use mathlib.Core.Bool.{Bool}
 use mathlib.Core.List.{List}
@@ -10,9 +11,8 @@ use mir.ValLaws.{to_z-of_z}
 use Rattle.words.specs.declared.Color.{Color}
 use Rattle.pixels.specs.declared.Canvas.{Canvas}
 use Rattle.canvas.specs.declared.Clip.{Clip}
-use Rattle.canvas.specs.declared.Drawn.{Drawn}
-use Rattle.canvas.specs.declared.Pixel.{Pixel}
-use Rattle.canvas.specs.Call.{Call, Outcome, status_of, count_of, leaves, call}
+use Rattle.canvas.specs.declared.Refusal.{Refusal}
+use Rattle.canvas.specs.Call.{Call, Outcome, Drawn, status_of, count_of, leaves, call}
 use Rattle.canvas.specs.Look.{reads, pixel_at}
 use Rattle.images.specs.Areas.{counted}
 use Rattle.tuyrashka.specs.Exported.{color_of, drawn_of, gives, tells}
@@ -41,7 +41,7 @@ pub exports : {b' n : List ℕ} {v v' : Canvas} {x y sx sy : ℤ} {s : ℕ} {z z
 exports w b d k fx fy fsx fsy ev ez ec e h = answers d (λ v x y i j z. call v (k x y i j (color_of w) z) b) fx fy fsx fsy ev ez e (rw ec at h)
 
 -- a pixel read
-pub shows : {v v' : Canvas} {x y : ℤ} {t : ℕ × (Bool × ℕ)} (b : List ℕ) (p : Pixel) → SFits w32 x → SFits w32 y → v' ≡ v
+pub shows : {v v' : Canvas} {x y : ℤ} {t : ℕ × (Bool × ℕ)} (b : List ℕ) (p : Result (Option Color) Refusal) → SFits w32 x → SFits w32 y → v' ≡ v
     → t ≡ tells (reads p) → reads p ≡ pixel_at v' b (to_z w32 (of_z w32 x)) (to_z w32 (of_z w32 y)) → t ≡ tells (pixel_at v b x y)
 shows {v} {v'} {x} {y} b p fx fy ev e h =
     let h' : reads p ≡ pixel_at v b x y = rw (to_z-of_z w32 x fx, to_z-of_z w32 y fy) at (rw ev at h) in

@@ -1,6 +1,6 @@
 -- How the records of include/tuyrashka.h name a canvas, a clip and a colour, and how answers read in them. A record that is lent is
 -- the list of its words; where a field stands in it is said here alone.
-use Rattle.std.specs.Prelude.{Bool, true, false, not, List, [], ◌∷◌, ℕ, eqb, ℤ, get_or}
+use Rattle.std.specs.Prelude.{Bool, true, false, not, List, [], ◌∷◌, ℕ, eqb, ℤ, get_or, Option, Some, None}
 use Rattle.std.specs.Int.{w32}
 use Rattle.std.proofs.Common.{to_z, of_z}
 use Rattle.words.specs.declared.Color.{Color}
@@ -9,7 +9,7 @@ use Rattle.words.specs.Word.{from_color, to_color}
 use Rattle.pixels.specs.declared.Canvas.{Canvas}
 use Rattle.canvas.specs.declared.Clip.{Clip}
 use Rattle.canvas.specs.Call.{Outcome}
-use Rattle.canvas.specs.Look.{Seen, nothing, seen, Reading}
+use Rattle.canvas.specs.Look.{Reading}
 use Rattle.lbmp.specs.Call as lbmp
 use Rattle.res.specs.Search as res
 
@@ -56,9 +56,9 @@ unfoldable pub gives : Outcome → ℕ × (List ℕ × List ℕ)
 gives o = (o.status, (drawn_of o.count, o.bytes))
 
 -- What get_pixel returns, whether a pixel is there, and its colour's word or 0.
-abbrev pub tell : ℕ → Seen → ℕ × (Bool × ℕ)
-tell s nothing = (s, (false, 0))
-tell s (seen c) = (s, (true, from_color argb c))
+abbrev pub tell : ℕ → Option Color → ℕ × (Bool × ℕ)
+tell s None = (s, (false, 0))
+tell s (Some c) = (s, (true, from_color argb c))
 
 unfoldable pub tells : Reading → ℕ × (Bool × ℕ)
 tells r = tell r.status r.color

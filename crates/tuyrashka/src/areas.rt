@@ -43,7 +43,7 @@ pub fn tuyrashka_copy_area(
     let v = canvas_of(canvas);
     let c = clip_of(clip);
     let d = images::copy_counted(v, bytes, dx, dy, sx, sy, w, h, c, drawn);
-    d.status()
+    canvas::status(d)
 }
 
 pub fn tuyrashka_draw(

@@ -4,7 +4,6 @@ ghost use Rattle.lbmp.specs.Call.{decoding};
 ghost use Rattle.tuyrashka.specs.Exported.{gives_bitmap};
 
 use crate::records::give_size;
-use lbmp::Judged;
 
 pub fn tuyrashka_decode_lbmp(
     file: &[u8],
@@ -17,12 +16,12 @@ pub fn tuyrashka_decode_lbmp(
 {
     let j = lbmp::decode_lbmp(file, out);
     match j {
-        Judged::Refused(r) => {
+        Err(r) => {
             give_size(0, 0, size);
             *clear = 0;
             r.number()
         }
-        Judged::Sound(i) => {
+        Ok(i) => {
             give_size(i.width, i.height, size);
             *clear = i.clear;
             0

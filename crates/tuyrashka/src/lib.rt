@@ -15,7 +15,6 @@ mod rounds;
 
 pub use areas::{tuyrashka_copy_area, tuyrashka_draw, tuyrashka_invert_rect};
 pub use bitmap::tuyrashka_decode_lbmp;
-use canvas::Pixel;
 pub use icon::tuyrashka_decode_res;
 use records::{canvas_of, clip_of, color_of, give_clip, give_drawn};
 pub use rounds::{
@@ -119,9 +118,9 @@ pub fn tuyrashka_get_pixel(
     *found = false;
     *argb = 0;
     match p {
-        Pixel::Refused(r) => r.number(),
-        Pixel::Nothing => 0,
-        Pixel::Of(c) => {
+        Err(r) => r.number(),
+        Ok(None) => 0,
+        Ok(Some(c)) => {
             *found = true;
             *argb = words::from_color(3, c);
             0

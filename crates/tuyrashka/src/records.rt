@@ -24,14 +24,9 @@ pub(crate) fn canvas_of(c: &[u32; 6]) -> Canvas
 pub(crate) fn source_of(c: &[u32; 6]) -> Canvas
     ensures { result ≡ source_of c.now }
 {
-    let s = canvas_of(c);
     Canvas {
-        format: s.format,
-        width: s.width,
-        height: s.height,
-        row: s.row,
         xor: false,
-        rule: s.rule,
+        ..canvas_of(c)
     }
 }
 
@@ -72,11 +67,11 @@ pub(crate) fn give_drawn(d: Drawn, out: &mut [u64; 1]) -> u32
     ensures { (result ≡ status_of d) × (out.new ≡ drawn_of (count_of d)) }
 {
     match d {
-        Drawn::Refused(r) => {
+        Err(r) => {
             *out = [0];
             r.number()
         }
-        Drawn::Done(t) => {
+        Ok(t) => {
             *out = [t.landed];
             0
         }

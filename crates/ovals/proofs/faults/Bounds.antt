@@ -1,10 +1,10 @@
 -- The bounds of angles and of boxes: as the code asks them, and what they give.
-use Rattle.std.proofs.Common.{◌≡◌, ℕ, suc, ◌≤◌, Bool, true, false, ◌||◌, ltb, ℤ, pos, negsuc, nat_abs, sym, refl, ◌∙◌, arith, w32, SFits, to_z, of_z, ltb-false}
+use Rattle.std.proofs.Common.{◌≡◌, ℕ, suc, ◌≤◌, Bool, true, false, ◌||◌, ltb, ℤ, pos, negsuc, nat_abs, sym, refl, ◌∙◌, arith, w32, SFits, to_z, of_z, ltb-false, Ok, Err, IsErrAnd}
 use lib.Signed.{lt_z}
 use mir.ValLaws.{to_z-of_z}
+use Rattle.canvas.specs.declared.Refusal.{Refusal}
 use Rattle.canvas.specs.declared.Refusal.TheVariants.{Shape}
-use Rattle.canvas.specs.declared.faults.Verdict.{Verdict}
-use Rattle.canvas.specs.declared.faults.Verdict.TheVariants.{Sound}
+use Rattle.canvas.specs.Faults.{Verdict, or_else}
 use Rattle.ovals.specs.Faults.{outside, angle_fault, shape_fault, arc_fault, Shaped}
 use Rattle.words.proofs.Either.{neither}
 use Rattle.canvas.proofs.faults.Verdicts.{passes, both_sound}
@@ -29,6 +29,12 @@ pub arc_of : (x y : ℤ) (w h : ℕ) (start arc : ℤ) (d : Verdict) → SFits w
     → d ≡ arc_fault (to_z w32 (of_z w32 x)) (to_z w32 (of_z w32 y)) w h (to_z w32 (of_z w32 start)) (to_z w32 (of_z w32 arc)) → d ≡ arc_fault x y w h start arc
 arc_of x y w h start arc d sx sy ss sa e = rw (to_z-of_z w32 x sx, to_z-of_z w32 y sy, to_z-of_z w32 start ss, to_z-of_z w32 arc sa) at e
 
+-- a first fault, as `?` hands it on
+pub hands : (d : Verdict) {f own : Verdict} {r : Refusal} → IsErrAnd d (λ e. e ≡ r) → Err r ≡ f → d ≡ or_else f own
+unfolding or_else
+hands (Ok u) k h = absurd k
+hands (Err e) k h = rw (← h, k) refl
+
 -- ---- a box without a fault
 
 in_bounds : (x : ℤ) → outside (negsuc 32767) (pos 32767) x ≡ false → nat_abs x ≤ 32768
@@ -39,7 +45,7 @@ in_bounds (negsuc n) e = go (ltb 32767 n) refl e
     go true p q = absurd (let z : ◌≡◌ {A = ℕ} 0 1 = cc in omega arith)
     go false p q = omega (arith, ltb-false 32767 n p)
 
-pub shape-known : (x y : ℤ) (w h : ℕ) → shape_fault x y w h ≡ Sound → Shaped x y w h
+pub shape-known : (x y : ℤ) (w h : ℕ) → shape_fault x y w h ≡ Ok tt → Shaped x y w h
 unfolding shape_fault
 shape-known x y w h e =
     let p : (outside (negsuc 32767) (pos 32767) x ≡ false) × _ = neither (outside (negsuc 32767) (pos 32767) x) _ (passes _ Shape e) in
@@ -47,6 +53,6 @@ shape-known x y w h e =
     let r : (ltb 32767 w ≡ false) × (ltb 32767 h ≡ false) = neither (ltb 32767 w) (ltb 32767 h) q.1 in
     record { left = in_bounds x p.0; top = in_bounds y q.0; wide = ltb-false _ _ r.0; high = ltb-false _ _ r.1 }
 
-pub arc-known : (x y : ℤ) (w h : ℕ) (start arc : ℤ) → arc_fault x y w h start arc ≡ Sound → Shaped x y w h
+pub arc-known : (x y : ℤ) (w h : ℕ) (start arc : ℤ) → arc_fault x y w h start arc ≡ Ok tt → Shaped x y w h
 unfolding arc_fault
 arc-known x y w h start arc e = shape-known x y w h (both_sound (angle_fault start arc) (shape_fault x y w h) e).1

@@ -6,20 +6,20 @@ use Rattle.tuyrashka.specs.Exported.{tells}
 use Rattle.tuyrashka.proofs.Answers.{shows}
 use Rattle.tuyrashka.proofs.tuyrashka_get_pixel.Goals as goal
 
-pub returns-in-Refused : goal.returns-in-Refused
+pub returns-in-Err : goal.returns-in-Err
 unfolding status_of seen_of tells
-returns-in-Refused c =
+returns-in-Err c =
     shows c.args.bytes.now c.get_pixel-p.result c.ranges.x c.ranges.y c.canvas_of-v.ensures
-    (rw (c.in-Refused.is, c.number.ensures) refl) c.get_pixel-p.ensures
+    (rw (c.in-Err.is, c.number.ensures) refl) c.get_pixel-p.ensures
 
-pub returns-in-Nothing : goal.returns-in-Nothing
+pub returns-in-None : goal.returns-in-None
 unfolding status_of seen_of tells
-returns-in-Nothing c =
+returns-in-None c =
     shows c.args.bytes.now c.get_pixel-p.result c.ranges.x c.ranges.y c.canvas_of-v.ensures
-    (rw c.in-Nothing.is refl) c.get_pixel-p.ensures
+    (rw c.in-None.is refl) c.get_pixel-p.ensures
 
-pub returns-in-Of : goal.returns-in-Of
+pub returns-in-Some : goal.returns-in-Some
 unfolding status_of seen_of tells format_of
-returns-in-Of c =
+returns-in-Some c =
     shows c.args.bytes.now c.get_pixel-p.result c.ranges.x c.ranges.y c.canvas_of-v.ensures
-    (rw (c.in-Of.is, c.from_color.ensures) refl) c.get_pixel-p.ensures
+    (rw (c.in-Some.is, c.from_color.ensures) refl) c.get_pixel-p.ensures

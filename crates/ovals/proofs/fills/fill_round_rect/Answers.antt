@@ -1,62 +1,51 @@
 -- A refusal is the first fault, the canvas's before the call's own; else the points are plotted with the colour's ink.
-use Rattle.std.proofs.Common.{refl, w32}
+use Rattle.std.proofs.Common.{refl, w32, Ok, Err}
 use mir.ValLaws.{to_z-of_z}
 use Rattle.ovals.specs.Faults.{shape_fault}
 use Rattle.ovals.specs.Curves.{round_fill}
 use Rattle.canvas.specs.Call.{dots}
 use Rattle.ovals.proofs.faults.Bounds.{shape_of, shape-known}
 use Rattle.canvas.proofs.plot.Draws.{ready_few}
-use Rattle.canvas.proofs.plot.Answers.{first, start_refuses, start-sized, start_own, start_draws}
+use Rattle.canvas.proofs.plot.Answers.{declines, canvas_first, own_next, start-sized, start_own, start_draws}
 use Rattle.canvas.proofs.boxes.Boxes.{inks-few}
 use Rattle.ovals.proofs.fills.Sieves.{round_le}
 use Rattle.ovals.proofs.fills.fill_round_rect.Goals as goal
 
 pub round_in-requires : goal.round_in-requires
 round_in-requires c =
-    let or_else = c.or_else-fault in
-    let judge = c.judge in
     let a = c.args in
     let f = c.ranges in
-    let shape-fault = c.shape_fault in
-    let s = start-sized a.canvas a.bytes.now (shape_fault a.x a.y a.w a.h) _
-    (first or_else.ensures judge.ensures (shape_of a.x a.y a.w a.h _ f.x f.y shape-fault.ensures))
-    c.in-Sound.is in
+    let own = shape_fault a.x a.y a.w a.h in
+    let h = own_next {own = own} c.in_ok-judge.ensures (shape_of a.x a.y a.w a.h _ f.x f.y c.in_ok-shape_fault.ensures) in
+    let s = start-sized a.canvas a.bytes.now own h in
     rw (to_z-of_z w32 a.x f.x, to_z-of_z w32 a.y f.y) (
       ready_few s refl (inks-few _ _ (round_le a.canvas a.x a.y a.w a.h a.aw a.ah s.wide s.high)),
-      shape-known a.x a.y a.w a.h
-          (start_own a.canvas a.bytes.now (shape_fault a.x a.y a.w a.h) _
-          (first or_else.ensures judge.ensures (shape_of a.x a.y a.w a.h _ f.x f.y shape-fault.ensures))
-          c.in-Sound.is),
+      shape-known a.x a.y a.w a.h (start_own a.canvas a.bytes.now own h),
     )
 
-pub returns-in-Faulty : goal.returns-in-Faulty
-returns-in-Faulty c =
-    let or_else = c.or_else-fault in
-    let judge = c.judge in
-    let shape-fault = c.shape_fault in
+pub returns-in_err-judge : goal.returns-in_err-judge
+returns-in_err-judge c =
     let a = c.args in
-    start_refuses a.canvas a.bytes.now (shape_fault a.x a.y a.w a.h) _
-    (first or_else.ensures judge.ensures (shape_of a.x a.y a.w a.h _ c.ranges.x c.ranges.y shape-fault.ensures)) _ _ _
-    c.in-Faulty.is
+    declines a.canvas a.bytes.now _ _ _ c.from_residual.ensures.1 (canvas_first (shape_fault a.x a.y a.w a.h) c.in_err-judge.ensures)
 
-pub returns-in-Sound : goal.returns-in-Sound
+pub returns-in_err-shape_fault : goal.returns-in_err-shape_fault
+returns-in_err-shape_fault c =
+    let a = c.args in
+    let f = c.ranges in
+    declines a.canvas a.bytes.now _ _ _ c.from_residual-in_err-shape_fault.ensures.1
+    (own_next c.in_ok-judge.ensures (shape_of a.x a.y a.w a.h _ f.x f.y c.in_err-shape_fault.ensures))
+
+pub returns : goal.returns
 unfolding dots
-returns-in-Sound c =
-    let or_else = c.or_else-fault in
-    let judge = c.judge in
-    let shape-fault = c.shape_fault in
+returns c =
+    let a = c.args in
+    let f = c.ranges in
     let ink = c.plot_ink-ink in
     let slice-known = c.slice_known-1 in
-    let f = c.ranges in
-    start_draws c.args.canvas c.args.bytes.now (shape_fault c.args.x c.args.y c.args.w c.args.h) _
-    (first or_else.ensures judge.ensures (shape_of c.args.x c.args.y c.args.w c.args.h _ f.x f.y shape-fault.ensures))
-    c.in-Sound.is c.args.color _ ink.ensures c.args.clip
-    (round_fill c.args.canvas c.args.x c.args.y c.args.w c.args.h c.args.aw c.args.ah) _ _
+    let g = c.well_formed.1.1.1.1.1.1.1.1.0.1 in
+    start_draws a.canvas a.bytes.now (shape_fault a.x a.y a.w a.h)
+    (own_next c.in_ok-judge.ensures (shape_of a.x a.y a.w a.h _ f.x f.y c.in_ok-shape_fault.ensures))
+    a.color _ ink.ensures a.clip (round_fill a.canvas a.x a.y a.w a.h a.aw a.ah) _ _
     (record { byte = λ i. (slice-known.given i).fits })
-    (record {
-      a = c.well_formed.1.1.1.1.1.1.1.1.0.1.1.0.1;
-      r = c.well_formed.1.1.1.1.1.1.1.1.0.1.1.1.0.1;
-      g = c.well_formed.1.1.1.1.1.1.1.1.0.1.1.1.1.0.1;
-      b = c.well_formed.1.1.1.1.1.1.1.1.0.1.1.1.1.1.0.1;
-    })
-    (rw (to_z-of_z w32 c.args.x f.x, to_z-of_z w32 c.args.y f.y) at c.round_in.ensures)
+    (record { a = g.1.0.1; r = g.1.1.0.1; g = g.1.1.1.0.1; b = g.1.1.1.1.0.1 })
+    (rw (to_z-of_z w32 a.x f.x, to_z-of_z w32 a.y f.y) at c.round_in.ensures)

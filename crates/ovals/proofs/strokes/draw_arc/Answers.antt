@@ -1,64 +1,44 @@
 -- A refusal is the first fault, the canvas's before the call's own; else the points are plotted with the colour's ink.
-use Rattle.std.proofs.Common.{arith, w32}
+use Rattle.std.proofs.Common.{arith, w32, Ok, Err}
 use mir.ValLaws.{to_z-of_z}
 use Rattle.ovals.specs.Faults.{arc_fault}
 use Rattle.ovals.specs.Strokes.{arc}
 use Rattle.canvas.specs.Call.{dots}
 use Rattle.ovals.proofs.faults.Bounds.{arc_of}
-use Rattle.canvas.proofs.plot.Answers.{first, start_refuses, start-sized, start_draws}
+use Rattle.canvas.proofs.plot.Answers.{declines, canvas_first, own_next, start-sized, start_draws}
 use Rattle.ovals.proofs.strokes.draw_arc.Goals as goal
 
 pub arc_in-requires : goal.arc_in-requires
 arc_in-requires c =
-    let or_else = c.or_else-fault in
-    let judge = c.judge in
-    let arc-fault = c.arc_fault in
-    let a = c.args in
-    let f = c.ranges in (
-      start-sized a.canvas a.bytes.now (arc_fault a.x a.y a.w a.h a.start a.arc) _
-          (first or_else.ensures judge.ensures (arc_of a.x a.y a.w a.h a.start a.arc _ f.x f.y f.start f.arc arc-fault.ensures))
-          c.in-Sound.is,
-      omega arith,
-    )
-
-pub returns-in-Faulty : goal.returns-in-Faulty
-returns-in-Faulty c =
-    let or_else = c.or_else-fault in
-    let judge = c.judge in
-    let arc-fault = c.arc_fault in
     let a = c.args in
     let f = c.ranges in
-    start_refuses a.canvas a.bytes.now (arc_fault a.x a.y a.w a.h a.start a.arc) _
-    (first or_else.ensures judge.ensures (arc_of a.x a.y a.w a.h a.start a.arc _ f.x f.y f.start f.arc arc-fault.ensures))
-    _ _ _ c.in-Faulty.is
+    let own = arc_fault a.x a.y a.w a.h a.start a.arc in
+    let h = own_next {own = own} c.in_ok-judge.ensures (arc_of a.x a.y a.w a.h a.start a.arc _ f.x f.y f.start f.arc c.in_ok-arc_fault.ensures) in
+    (start-sized a.canvas a.bytes.now own h, omega arith)
 
-pub returns-in-Sound : goal.returns-in-Sound
+pub returns-in_err-judge : goal.returns-in_err-judge
+returns-in_err-judge c =
+    let a = c.args in
+    declines a.canvas a.bytes.now _ _ _ c.from_residual.ensures.1 (canvas_first (arc_fault a.x a.y a.w a.h a.start a.arc) c.in_err-judge.ensures)
+
+pub returns-in_err-arc_fault : goal.returns-in_err-arc_fault
+returns-in_err-arc_fault c =
+    let a = c.args in
+    let f = c.ranges in
+    declines a.canvas a.bytes.now _ _ _ c.from_residual-in_err-arc_fault.ensures.1
+    (own_next c.in_ok-judge.ensures (arc_of a.x a.y a.w a.h a.start a.arc _ f.x f.y f.start f.arc c.in_err-arc_fault.ensures))
+
+pub returns : goal.returns
 unfolding dots
-returns-in-Sound c =
-    let or_else = c.or_else-fault in
-    let judge = c.judge in
-    let arc-fault = c.arc_fault in
+returns c =
+    let a = c.args in
+    let f = c.ranges in
     let ink = c.plot_ink-ink in
     let slice-known = c.slice_known-1 in
-    let f = c.ranges in
     let g = c.well_formed.1.1.1.1.1.1.1.1.0.1 in
-    start_draws c.args.canvas
-    c.args.bytes.now
-    (arc_fault c.args.x
-    c.args.y c.args.w
-    c.args.h c.args.start
-    c.args.arc) _ (first or_else.ensures judge.ensures
-    (arc_of c.args.x c.args.y c.args.w c.args.h c.args.start c.args.arc _ f.x f.y f.start f.arc arc-fault.ensures))
-    c.in-Sound.is c.args.color _ ink.ensures c.args.clip
-    (arc c.args.canvas c.args.x c.args.y c.args.w c.args.h c.args.start c.args.arc) _ _
+    start_draws a.canvas a.bytes.now (arc_fault a.x a.y a.w a.h a.start a.arc)
+    (own_next c.in_ok-judge.ensures (arc_of a.x a.y a.w a.h a.start a.arc _ f.x f.y f.start f.arc c.in_ok-arc_fault.ensures))
+    a.color _ ink.ensures a.clip (arc a.canvas a.x a.y a.w a.h a.start a.arc) _ _
     (record { byte = λ i. (slice-known.given i).fits })
     (record { a = g.1.0.1; r = g.1.1.0.1; g = g.1.1.1.0.1; b = g.1.1.1.1.0.1 })
-    (rw (
-      to_z-of_z w32 c.args.x f.x,
-      to_z-of_z w32
-          c.args.y f.y,
-      to_z-of_z w32
-          c.args.start f.start,
-      to_z-of_z w32
-          c.args.arc f.arc,
-    ) at c.arc_in.ensures)
+    (rw (to_z-of_z w32 a.x f.x, to_z-of_z w32 a.y f.y, to_z-of_z w32 a.start f.start, to_z-of_z w32 a.arc f.arc) at c.arc_in.ensures)

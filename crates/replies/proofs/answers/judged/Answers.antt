@@ -3,10 +3,10 @@ use mathlib.Core.Path.{refl}
 use Rattle.lbmp.specs.Call.{reads}
 use Rattle.replies.proofs.answers.judged.Goals as goal
 
-pub returns-in-Refused : goal.returns-in-Refused
+pub returns-in-Err : goal.returns-in-Err
 unfolding reads
-returns-in-Refused c = rw (c.in-Refused.is, c.number.ensures) refl
+returns-in-Err c = rw (c.in-Err.is, c.number.ensures) refl
 
-pub returns-in-Sound : goal.returns-in-Sound
+pub returns-in-Ok : goal.returns-in-Ok
 unfolding reads
-returns-in-Sound c = rw c.in-Sound.is refl
+returns-in-Ok c = rw c.in-Ok.is refl

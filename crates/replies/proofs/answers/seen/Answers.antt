@@ -5,14 +5,14 @@ use Rattle.canvas.specs.Look.{status_of, seen_of}
 use Rattle.replies.specs.Answers.{argb_of}
 use Rattle.replies.proofs.answers.seen.Goals as goal
 
-pub returns-in-Refused : goal.returns-in-Refused
+pub returns-in-Err : goal.returns-in-Err
 unfolding status_of seen_of argb_of
-returns-in-Refused c = rw (c.in-Refused.is, c.number.ensures) refl
+returns-in-Err c = rw (c.in-Err.is, c.number.ensures) refl
 
-pub returns-in-Nothing : goal.returns-in-Nothing
+pub returns-in-None : goal.returns-in-None
 unfolding status_of seen_of argb_of
-returns-in-Nothing c = rw c.in-Nothing.is refl
+returns-in-None c = rw c.in-None.is refl
 
-pub returns-in-Of : goal.returns-in-Of
+pub returns-in-Some : goal.returns-in-Some
 unfolding status_of seen_of argb_of format_of
-returns-in-Of c = rw (c.in-Of.is, c.from_color.ensures) refl
+returns-in-Some c = rw (c.in-Some.is, c.from_color.ensures) refl

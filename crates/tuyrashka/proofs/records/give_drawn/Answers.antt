@@ -3,10 +3,10 @@ use mathlib.Core.Path.{refl}
 use Rattle.canvas.specs.Call.{status_of, count_of}
 use Rattle.tuyrashka.proofs.records.give_drawn.Goals as goal
 
-pub returns-in-Refused : goal.returns-in-Refused
+pub returns-in-Err : goal.returns-in-Err
 unfolding status_of count_of
-returns-in-Refused c = rw (c.in-Refused.is, c.number.ensures) (refl, refl)
+returns-in-Err c = rw (c.in-Err.is, c.number.ensures) (refl, refl)
 
-pub returns-in-Done : goal.returns-in-Done
+pub returns-in-Ok : goal.returns-in-Ok
 unfolding status_of count_of
-returns-in-Done c = rw c.in-Done.is (refl, refl)
+returns-in-Ok c = rw c.in-Ok.is (refl, refl)
