@@ -23,8 +23,8 @@ use pixels::Canvas;
 use pixels::rows::Span;
 use words::{Color, Ink};
 
-// The plots of m points, whose columns and rows are given, lifted.
-fn dab_spots<const N: usize>(
+// The plots of m points, whose columns and rows are given, lifted: of words of N bytes.
+fn dab_spots_by<const N: usize>(
     canvas: Canvas,
     b: &mut [u8],
     xs: Span,
@@ -48,6 +48,29 @@ fn dab_spots<const N: usize>(
     t
 }
 
+// The plots of m points, whose columns and rows are given, lifted.
+fn dab_spots(
+    canvas: Canvas,
+    b: &mut [u8],
+    xs: Span,
+    ys: Span,
+    ps: &[u32],
+    qs: &[u32],
+    m: usize,
+    ink: Ink,
+    t: Tally,
+) -> Tally
+    requires sized { (Sized canvas b.old) × ((Fields canvas xs ys) × (m ≤ 16)) }
+    requires ps_len { (length ps.now ≡ 16) × ((length qs.now ≡ 16) × (Fits (plus t m))) }
+    ensures { work b.new result ≡ dabs canvas xs ys (inked ink) (spots_at ps.now qs.now 0 m) (work b.old t) }
+{
+    match canvas.format {
+        0 => dab_spots_by::<1>(canvas, b, xs, ys, ps, qs, m, ink, t),
+        1 => dab_spots_by::<2>(canvas, b, xs, ys, ps, qs, m, ink, t),
+        _ => dab_spots_by::<4>(canvas, b, xs, ys, ps, qs, m, ink, t),
+    }
+}
+
 // So many, and 16 at most.
 fn up_to_16(n: u32) -> u32
     ensures { result ≡ min n 16 }
@@ -59,7 +82,7 @@ fn up_to_16(n: u32) -> u32
 }
 
 // The plots of a stroke of so many steps, the first and the last included, 16 at a time.
-fn stroke_steps<const N: usize>(
+fn stroke_steps(
     canvas: Canvas,
     b: &mut [u8],
     xs: Span,
@@ -71,7 +94,7 @@ fn stroke_steps<const N: usize>(
     ink: Ink,
     t0: Tally,
 ) -> Tally
-    requires { (Sized canvas b.old) × ((Fields canvas xs ys) × ((N ≡ size canvas) × ((steps ≤ 1048544) × (t0.landed < 9223372036854775808)))) }
+    requires { (Sized canvas b.old) × ((Fields canvas xs ys) × ((steps ≤ 1048544) × (t0.landed < 9223372036854775808))) }
     ensures { work b.new result ≡ dabs canvas xs ys (inked ink) (stroke_from o start sweep steps 0 (suc steps)) (work b.old t0) }
 {
     let mut ps = [0u32; 16];
@@ -81,7 +104,7 @@ fn stroke_steps<const N: usize>(
     while i <= steps {
         curves::strokes::spots_from(o, start, sweep, i, steps, &mut ps, &mut qs);
         let m = up_to_16(steps + 1 - i);
-        t = dab_spots::<N>(canvas, b, xs, ys, &ps, &qs, m as usize, ink, t);
+        t = dab_spots(canvas, b, xs, ys, &ps, &qs, m as usize, ink, t);
         i = i + m;
     }
     t
@@ -104,12 +127,7 @@ pub(crate) fn stroke_in(
     let xs = window(clip.x, clip.width, canvas.width);
     let ys = window(clip.y, clip.height, canvas.height);
     let steps = curves::strokes::steps(o, sweep, canvas.width, canvas.height) as u32;
-    let f = canvas.format;
-    match f {
-        0 => stroke_steps::<1>(canvas, b, xs, ys, o, start, sweep, steps, ink, t),
-        1 => stroke_steps::<2>(canvas, b, xs, ys, o, start, sweep, steps, ink, t),
-        _ => stroke_steps::<4>(canvas, b, xs, ys, o, start, sweep, steps, ink, t),
-    }
+    stroke_steps(canvas, b, xs, ys, o, start, sweep, steps, ink, t)
 }
 
 // The plots of an arc, whose angles are in degrees.

@@ -62,12 +62,12 @@ pub(crate) fn index(canvas: Canvas, x: usize, y: usize) -> usize
     y * w + x
 }
 
-// The word of a pixel of N bytes.
-fn load_by<const N: usize>(canvas: Canvas, b: &[u8], x: usize, y: usize) -> u32
-    requires { (Sized canvas b.now) × ((On canvas x y) × (N ≡ size canvas)) }
-    ensures { (result ≡ load_at canvas b.now x y) × (result < range (form canvas)) }
+// Where a pixel's bytes start.
+fn offset(canvas: Canvas, x: usize, y: usize) -> usize
+    requires { (On canvas x y) × (Bounded canvas) }
+    ensures { result ≡ (y * pitch canvas + x) * size canvas }
 {
-    word::<N>(b, index(canvas, x, y) * N)
+    index(canvas, x, y) * words::bytes_per_pixel(canvas.format)
 }
 
 // The word of a pixel.
@@ -75,10 +75,11 @@ pub fn load_at(canvas: Canvas, b: &[u8], x: usize, y: usize) -> u32
     requires { (Sized canvas b.now) × (On canvas x y) }
     ensures { (result ≡ load_at canvas b.now x y) × (result < range (form canvas)) }
 {
+    let o = offset(canvas, x, y);
     match canvas.format {
-        0 => load_by::<1>(canvas, b, x, y),
-        1 => load_by::<2>(canvas, b, x, y),
-        _ => load_by::<4>(canvas, b, x, y),
+        0 => word::<1>(b, o),
+        1 => word::<2>(b, o),
+        _ => word::<4>(b, o),
     }
 }
 

@@ -155,3 +155,14 @@ module _ (v : Canvas) (b : List ℕ) (x y i s : ℕ) (r : Sized v b) (p : On v x
   pub touch_is : (b' : List ℕ) (f : ℕ → ℕ) (w w' : ℕ) → w ≡ load (cells s (i * s)) b → w' ≡ f w → b' ≡ store (cells s (i * s)) b w' → b' ≡ touch v b (hit f x y)
   unfolding touch load_at store_at pixel
   touch_is b' f w w' h k l = l ∙ rw (k, h, e, ← z) refl
+
+-- ---- the same at an offset
+
+module _ (v : Canvas) (b : List ℕ) (x y o s : ℕ) (r : Sized v b) (p : On v x y) (e : o ≡ (y * pitch v + x) * size v) (z : size v ≡ s) where
+  pub in_offset : o + s ≤ length b
+  in_offset = rw (e, z) (in_place v b x y (y * pitch v + x) s r p refl z)
+
+  pub read_offset : (w : ℕ) → (w ≡ load (cells s o) b) × (w < 256 ^ s) → (w ≡ load_at v b x y) × (w < range (form v))
+  read_offset w h =
+      let f : o ≡ (y * pitch v + x) * s = e ∙ ap (λ (k : ℕ). (y * pitch v + x) * k) z in
+      (read_is v b x y _ s r p refl z w (h.0 ∙ ap (λ (k : ℕ). load (cells s k) b) f), read-lt v b x y _ s r p refl z w h.1)

@@ -10,53 +10,53 @@ use Rattle.ovals.proofs.strokes.Stroking.{sixteen, all, stroking_start, stroking
 use Rattle.ovals.proofs.strokes.stroke_steps.Goals as goal
 
 pub loop-i-init : goal.loop-i-init
-loop-i-init g c = let a = c.args in (stroking_start a.o a.start a.sweep a.steps, (refl, refl))
+loop-i-init c = let a = c.args in (stroking_start a.o a.start a.sweep a.steps, (refl, refl))
 
 pub spots_from-requires : goal.spots_from-requires
-spots_from-requires g c =
+spots_from-requires c =
     let l = c.loop-i.invariant in
-    (omega (arith, c.loop-i-test.true, c.requires.1.1.1.0), l.1)
+    (omega (arith, c.loop-i-test.true, c.requires.1.1.0), l.1)
 
 pub overflow_add-steps : goal.overflow_add-steps
-overflow_add-steps g c = record { fits = omega (arith, c.requires.1.1.1.0) }
+overflow_add-steps c = record { fits = omega (arith, c.requires.1.1.0) }
 
 pub overflow_sub-steps : goal.overflow_sub-steps
-overflow_sub-steps g c = omega (arith, c.loop-i-test.true)
+overflow_sub-steps c = omega (arith, c.loop-i-test.true)
 
 pub up_to_16-m-requires : goal.up_to_16-m-requires
-up_to_16-m-requires g c = tt
+up_to_16-m-requires c = tt
 
 pub overflow_cast-m : goal.overflow_cast-m
-overflow_cast-m g c = record { fits = omega (arith, c.up_to_16-m.ensures) }
+overflow_cast-m c = record { fits = omega (arith, c.up_to_16-m.ensures) }
 
 pub dab_spots-t-requires : goal.dab_spots-t-requires
-dab_spots-t-requires g c =
+dab_spots-t-requires c =
     let l = c.loop-i in
     let m = c.up_to_16-m in
     let few : m.result ≤ 16 = omega (arith, m.ensures) in
     let p = c.args in
     let k = c.spots_from.ensures in
     record {
-      sized = (sized-length (dabbing_length l.invariant.0.rest) c.requires.0, (c.requires.1.0, (c.requires.1.1.0, few)));
+      sized = (sized-length (dabbing_length l.invariant.0.rest) c.requires.0, (c.requires.1.0, few));
       ps_len = (
         all p.o p.start p.sweep p.steps l.i (λ (t : Spot). lifted t.x) k.0,
         (
           all p.o p.start p.sweep p.steps l.i (λ (t : Spot). lifted t.y) k.1,
-          stroking_room p.o p.start p.sweep p.steps m.result c.requires.1.1.1.0 c.requires.1.1.1.1 few l.invariant.0,
+          stroking_room p.o p.start p.sweep p.steps m.result c.requires.1.1.0 c.requires.1.1.1 few l.invariant.0,
         ),
       );
     }
 
 pub overflow_add-i : goal.overflow_add-i
-overflow_add-i g c =
-    record { fits = omega (arith, c.up_to_16-m.ensures, c.loop-i-test.true, c.requires.1.1.1.0) }
+overflow_add-i c =
+    record { fits = omega (arith, c.up_to_16-m.ensures, c.loop-i-test.true, c.requires.1.1.0) }
 
 pub loop-i-smaller : goal.loop-i-smaller
-loop-i-smaller g c =
+loop-i-smaller c =
     omega (arith, c.up_to_16-m.ensures, c.loop-i-test.true)
 
 pub loop-i-preserved : goal.loop-i-preserved
-loop-i-preserved g c =
+loop-i-preserved c =
     let l = c.loop-i in
     let a = c.args in
     let d = c.dab_spots-t in
@@ -74,9 +74,9 @@ loop-i-preserved g c =
     )
 
 pub shape_of-b : goal.shape_of-b
-shape_of-b g c = dabbing_length c.loop-i.invariant.0.rest
+shape_of-b c = dabbing_length c.loop-i.invariant.0.rest
 
 pub returns : goal.returns
-returns g c =
+returns c =
     let a = c.args in
     stroking_end a.o a.start a.sweep a.steps c.loop-i-test.false c.loop-i.invariant.0
