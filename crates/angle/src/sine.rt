@@ -88,16 +88,6 @@ fn turned(n: u32, y: f32) -> f32
     f32::from_bits(std::num::wrapping_add_u32(f32::to_bits(y), n % 2 * 0x8000_0000))
 }
 
-// 1 where b holds.
-fn one_if(b: bool) -> u32
-    ensures { result ≡ (if b then 1 else 0) }
-{
-    if b {
-        return 1;
-    }
-    0
-}
-
 // s at an even quarter, and c at an odd one.
 fn even_or_odd(k: u32, s: f32, c: f32) -> f32
     ensures { result ≡ (if nat_eq (k % 2) 0 then s else c) }
@@ -133,9 +123,9 @@ pub fn sine_cosine(t: f32) -> SineCosine
     let d = off(w, y - 6755399441055744.0);
     let r = sized(d);
     let z = r * r;
-    let s = turned(one_if(d < 0.0), narrow(sine_from(r, z)));
+    let s = turned(u32::from(d < 0.0), narrow(sine_from(r, z)));
     let c = narrow(cosine_from(z));
-    let v = placed_at(k, one_if(t < 0.0), s, c);
+    let v = placed_at(k, u32::from(t < 0.0), s, c);
     let cosine = placed_at(k + 1, 0, s, c);
     if x <= 0.000244140625 {
         return SineCosine { sine: t, cosine };

@@ -1,9 +1,7 @@
 // Regions that are one run in each row: the ellipses of pies, and boxes with round corners. Whether such a region takes a pixel
 // hangs on how far it lies from the middle of its row and of its column.
-ghost use Rattle.std.specs.Prelude.{◌≡◌, ◌+◌, ◌-◌, ◌*◌, ◌<◌, ◌≤◌, max, true, false, nat_lt};
+ghost use Rattle.std.specs.Prelude.{◌≡◌, ◌+◌, ◌-◌, ◌*◌, ◌<◌, ◌≤◌, true, false};
 ghost use Rattle.curves.specs.Bulges.{pie_side, round_side, Sided, part_on, has_at, Rising, Run};
-
-use crate::corners::smaller;
 
 // A side of a box of `count` places, of which the arcs at both ends take `arc` halves. A place's offset from the nearest centre is
 // that from the middle less what is straight, count - 1 - arc halves, and is divided by `by` halves.
@@ -14,34 +12,6 @@ pub struct Side {
     pub by: u32,
 }
 
-// Whether a number is below another, both below 2^31: several such at a time are tested as signed numbers.
-fn below(a: u32, b: u32) -> bool
-    requires { (a < 2147483648) × (b < 2147483648) }
-    ensures { result ≡ nat_lt a b }
-{
-    (a as i32) < (b as i32)
-}
-
-fn less(a: u32, b: u32) -> u32
-    requires { (a < 2147483648) × (b < 2147483648) }
-    ensures { result ≡ a - b }
-{
-    if below(a, b) {
-        return 0;
-    }
-    a - b
-}
-
-fn gap(a: u32, b: u32) -> u32
-    requires { (a < 2147483648) × (b < 2147483648) }
-    ensures { result ≡ (a - b) + (b - a) }
-{
-    if below(a, b) {
-        return b - a;
-    }
-    a - b
-}
-
 // The square of a place's part in the ellipse.
 pub fn part(s: Side, i: u32) -> f32
     requires { (Sided s) × (i < s.count) }
@@ -49,8 +19,8 @@ pub fn part(s: Side, i: u32) -> f32
 {
     let m = s.count - 1;
     let by = s.by;
-    let far = gap(2 * i, m);
-    let k = less(far + s.arc, m);
+    let far = (2 * i).abs_diff(m);
+    let k = (far + s.arc).saturating_sub(m);
     let n = k as i32 as f32 / by as i32 as f32;
     n * n
 }
@@ -68,14 +38,12 @@ fn outward(s: Side, row: f32, from: u32) -> u32
     requires { (Sided s) × ((Rising (has_at s row) s.count) × ((2 * from < s.count) × (has_at s row from ≡ true))) }
     ensures { Run (has_at s row) s.count result }
 {
-    let mut i = from;
-    while i > 0 {
-        if !has(s, row, i - 1) {
-            return i;
+    for i in (0..from).rev() {
+        if !has(s, row, i) {
+            return i + 1;
         }
-        i = i - 1;
     }
-    i
+    0
 }
 
 // The first place taken, looked for from one on before which none is.
@@ -84,14 +52,12 @@ fn inward(s: Side, row: f32, from: u32) -> u32
     ensures { Run (has_at s row) s.count result }
 {
     let half = (s.count + 1) / 2;
-    let mut i = from;
-    while i < half {
+    for i in from..half {
         if has(s, row, i) {
             return i;
         }
-        i = i + 1;
     }
-    i
+    half
 }
 
 // The first place r of a row that is taken, looked for from a place of its left half on, either way. The row's run is from r up to
@@ -106,15 +72,6 @@ pub fn first(s: Side, row: f32, from: u32) -> u32
     inward(s, row, from + 1)
 }
 
-fn at_least_one(n: u32) -> u32
-    ensures { result ≡ max n 1 }
-{
-    if n < 1 {
-        return 1;
-    }
-    n
-}
-
 // A side of a pie's box.
 pub fn pie_side(n: u32) -> Side
     requires { 1 ≤ n }
@@ -124,7 +81,7 @@ pub fn pie_side(n: u32) -> Side
     Side {
         count: n,
         arc: m,
-        by: at_least_one(m),
+        by: m.max(1),
     }
 }
 
@@ -132,7 +89,7 @@ pub fn pie_side(n: u32) -> Side
 pub fn round_side(arc: u32, n: u32) -> Side
     ensures { result ≡ round_side arc n }
 {
-    let k = at_least_one(smaller(arc, n));
+    let k = arc.min(n).max(1);
     Side {
         count: n,
         arc: k,

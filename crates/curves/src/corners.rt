@@ -1,5 +1,5 @@
 // Round corners: radii, and the four corners' ovals.
-ghost use Rattle.std.specs.Prelude.{◌≡◌, min, if◌then◌else◌};
+ghost use Rattle.std.specs.Prelude.{◌≡◌};
 ghost use Rattle.curves.specs.Corners.{radius_of, inset_of, corners_of, corner_of};
 
 use crate::oval::Oval;
@@ -15,20 +15,11 @@ pub struct Corners {
     pub ry: f32,
 }
 
-pub(crate) fn smaller(a: u32, b: u32) -> u32
-    ensures { result ≡ min a b }
-{
-    if a < b {
-        return a;
-    }
-    b
-}
-
 // The radius of an arc size along a side of the box.
 pub fn radius(arc: u32, side: u32) -> f32
     ensures { result ≡ radius_of arc side }
 {
-    let n = smaller(arc, side);
+    let n = arc.min(side);
     floats::max(std::num::nearest_u32_to_f32(n) / 2.0, 0.5)
 }
 
@@ -57,22 +48,13 @@ pub fn corners_in(left: i32, top: i32, right: i32, bottom: i32, rx: f32, ry: f32
     }
 }
 
-fn either(second: bool, a: f32, b: f32) -> f32
-    ensures { result ≡ (if second then b else a) }
-{
-    if second {
-        return b;
-    }
-    a
-}
-
 // The oval of one corner.
 pub fn corner(c: Corners, right: bool, bottom: bool) -> Oval
     ensures { result ≡ corner_of c right bottom }
 {
     Oval {
-        cx: either(right, c.left, c.right),
-        cy: either(bottom, c.top, c.bottom),
+        cx: if right { c.right } else { c.left },
+        cy: if bottom { c.bottom } else { c.top },
         a: c.rx,
         b: c.ry,
     }

@@ -1,5 +1,5 @@
 // Strokes: how many steps one has, and the point at each.
-ghost use Rattle.std.specs.Prelude.{◌≡◌, ◌+◌, ◌*◌, ◌≤◌, max, map, length, pos};
+ghost use Rattle.std.specs.Prelude.{◌≡◌, ◌+◌, ◌*◌, ◌≤◌, max, map, pos};
 ghost use Rattle.std.specs.Float.{binary32};
 ghost use Rattle.std.specs.Float.Ieee.{of_int, add, mul, div};
 ghost use Rattle.floats.specs.Whole.{lifted};
@@ -12,11 +12,8 @@ use crate::oval::Oval;
 fn most_steps(width: u32, height: u32) -> u64
     ensures { result ≡ 16 * max (width + height) 1 }
 {
-    let sides = width as u64 + height as u64;
-    if sides > 1 {
-        return 16 * sides;
-    }
-    16
+    let sides = u64::from(width) + u64::from(height);
+    16 * sides.max(1)
 }
 
 // The steps of a stroke, whose sweep is in radians, on a canvas of these sides.
@@ -25,14 +22,7 @@ pub fn steps(o: Oval, sweep: f32, width: u32, height: u32) -> u64
 {
     let radius = floats::max(floats::max(o.a, o.b), 1.0);
     let n = floats::ceil_size(floats::abs(sweep) * radius) * 2;
-    let most = most_steps(width, height);
-    if n < 1 {
-        return 1;
-    }
-    if n > most {
-        return most;
-    }
-    n
+    n.max(1).min(most_steps(width, height))
 }
 
 // The f32 nearest to n, by the machine's own cast where that loses nothing.
@@ -54,44 +44,41 @@ fn angle_at(start: f32, sweep: f32, i: u32, by: f32) -> f32
 }
 
 // The angles at 16 steps, from step i on.
-fn angles(start: f32, sweep: f32, i: u32, steps: u32, ts: &mut [f32])
-    requires { (i ≤ 0x10_0000) × (length ts.old ≡ 16) }
+fn angles(start: f32, sweep: f32, i: u32, steps: u32, ts: &mut [f32; 16])
+    requires { i ≤ 0x10_0000 }
     ensures { ts.new ≡ angles_from start sweep steps i 16 }
 {
     let by = nearest_to(steps);
-    let mut j = 0u32;
-    while j < 16 {
+    for j in 0..16u32 {
         ts[j as usize] = angle_at(start, sweep, i + j, by);
-        j = j + 1;
     }
 }
 
 // The sines and the cosines of 16 angles.
-fn sines_of(ts: &[f32], ss: &mut [f32], cs: &mut [f32])
-    requires { (length ts.now ≡ 16) × ((length ss.old ≡ 16) × (length cs.old ≡ 16)) }
+fn sines_of(ts: &[f32; 16], ss: &mut [f32; 16], cs: &mut [f32; 16])
     ensures { (ss.new ≡ map sine_of ts.now) × (cs.new ≡ map cosine_of ts.now) }
 {
-    let mut j = 0;
-    while j < 16 {
+    for j in 0..16 {
         let t = angle::sine::sine_cosine(ts[j]);
         ss[j] = t.sine;
         cs[j] = t.cosine;
-        j = j + 1;
     }
 }
 
 // The points of 16 sines and cosines, lifted.
-fn spots_of(o: Oval, ss: &[f32], cs: &[f32], ps: &mut [u32], qs: &mut [u32])
-    requires ss_len { (length ss.now ≡ 16) × (length cs.now ≡ 16) }
-    requires ps_len { (length ps.old ≡ 16) × (length qs.old ≡ 16) }
+fn spots_of(
+    o: Oval,
+    ss: &[f32; 16],
+    cs: &[f32; 16],
+    ps: &mut [u32; 16],
+    qs: &mut [u32; 16],
+)
     ensures ps_after { ps.new ≡ map (λ c. lifted (x_at o c)) cs.now }
     ensures qs_after { qs.new ≡ map (λ s. lifted (y_at o s)) ss.now }
 {
-    let mut j = 0;
-    while j < 16 {
+    for j in 0..16 {
         ps[j] = floats::round_lifted(o.cx + o.a * cs[j]);
         qs[j] = floats::round_lifted(o.cy - o.b * ss[j]);
-        j = j + 1;
     }
 }
 
@@ -103,10 +90,10 @@ pub fn spots_from(
     sweep: f32,
     i: u32,
     steps: u32,
-    ps: &mut [u32],
-    qs: &mut [u32],
+    ps: &mut [u32; 16],
+    qs: &mut [u32; 16],
 )
-    requires { (i ≤ 0x10_0000) × ((length ps.old ≡ 16) × (length qs.old ≡ 16)) }
+    requires { i ≤ 0x10_0000 }
     ensures { (ps.new ≡ columns (spots_from o start sweep steps i 16)) × (qs.new ≡ rows (spots_from o start sweep steps i 16)) }
 {
     let mut ts = [0.0f32; 16];

@@ -1,5 +1,6 @@
 -- `sine_cosine` meets its contract: both answers come from one rest. Assumes nothing.
 use Rattle.std.proofs.Common.{◌≡◌, ℕ, ◌+◌, ◌%◌, Bool, true, false, cond, not, ◌&&◌, T, eqb, sym, ap, ◌∙◌, subst, arith}
+use Rattle.std.specs.Int.{from_bool}
 use lib.Ieee.{Float, binary32, binary64, neg, mul, sub, lt, le, of_bits, to_bits, fits, is_nan}
 use Rattle.floats.proofs.Range.{yes}
 use Rattle.angle.specs.declared.sine.SineCosine.{SineCosine}
@@ -35,14 +36,14 @@ abbrev pair : Float → Float → SineCosine
 pair y x = record { sine = y; cosine = x }
 
 -- a minus where the test holds
-minus_if_lem : (b : Bool) (n : ℕ) (q : Float) → n ≡ cond b 1 0 → turned_by (n % 2) q ≡ cond b (neg q) q
+minus_if_lem : (b : Bool) (n : ℕ) (q : Float) → n ≡ from_bool b → turned_by (n % 2) q ≡ cond b (neg q) q
 minus_if_lem true n q e = ap (λ (m : ℕ). turned_by (m % 2) q) e
 minus_if_lem false n q e = ap (λ (m : ℕ). turned_by (m % 2) q) e
 
 once : (n : ℕ) → n % 4 % 4 ≡ n % 4
 once n = omega arith
 
-placed-sine : (b : Bool) (i n : ℕ) (s c v : Float) → v ≡ turned_by (i % 2) (placed neg (n % 4 % 4) s c) → i ≡ cond b 1 0
+placed-sine : (b : Bool) (i n : ℕ) (s c v : Float) → v ≡ turned_by (i % 2) (placed neg (n % 4 % 4) s c) → i ≡ from_bool b
     → v ≡ cond b (neg (placed neg (n % 4) s c)) (placed neg (n % 4) s c)
 placed-sine b i n s c v e f = e ∙ ap (λ (k : ℕ). turned_by (i % 2) (placed neg k s c)) (once n) ∙ minus_if_lem b i (placed neg (n % 4) s c) f
 
@@ -98,7 +99,7 @@ placed_at-v-requires c =
     let w = c.cosine_from in
     let k = number p.result q.result (sine-whole t r.result p.result f e p.ensures) q.ensures in
     let l = number w.result c.narrow-c.result (cosine-whole t r.result w.result f e w.ensures) c.narrow-c.ensures in
-    (signed-number c.one_if.result q.result c.turned-s.result k c.turned-s.ensures, l)
+    (signed-number c.from.result q.result c.turned-s.result k c.turned-s.ensures, l)
 
 pub placed_at-cosine-requires : goal.placed_at-cosine-requires
 placed_at-cosine-requires c =
@@ -111,20 +112,20 @@ placed_at-cosine-requires c =
     let w = c.cosine_from in
     let k = number p.result q.result (sine-whole t r.result p.result f e p.ensures) q.ensures in
     let l = number w.result c.narrow-c.result (cosine-whole t r.result w.result f e w.ensures) c.narrow-c.ensures in
-    (signed-number c.one_if.result q.result c.turned-s.result k c.turned-s.ensures, l)
+    (signed-number c.from.result q.result c.turned-s.result k c.turned-s.ensures, l)
 
 pub returns-then-x : goal.returns-then-x
 unfolding of_bits
 returns-then-x c =
     let z = c.placed_at-cosine in
     let v = c.placed_at-v in
-    let i = c.one_if-2 in
+    let i = c.from-2 in
     let n = c.narrow-c in
     let w = c.cosine_from in
     let s = c.turned-s in
     let q = c.narrow in
     let p = c.sine_from in
-    let g = c.one_if in
+    let g = c.from in
     let r = c.sized-r in
     let d = c.off-d in
     let y = c.counted-y in
@@ -141,13 +142,13 @@ unfolding of_bits
 returns c =
     let z = c.placed_at-cosine in
     let v = c.placed_at-v in
-    let i = c.one_if-2 in
+    let i = c.from-2 in
     let n = c.narrow-c in
     let w = c.cosine_from in
     let s = c.turned-s in
     let q = c.narrow in
     let p = c.sine_from in
-    let g = c.one_if in
+    let g = c.from in
     let r = c.sized-r in
     let d = c.off-d in
     let y = c.counted-y in

@@ -1,5 +1,5 @@
 -- None before here is taken. Assumes nothing.
-use Rattle.std.proofs.Common.{sym, ap, ◌∙◌, arith}
+use Rattle.std.proofs.Common.{◌≡◌, ℕ, ◌+◌, ◌-◌, ◌/◌, sym, ap, ◌∙◌, arith}
 use Rattle.curves.specs.Bulges.{has_at}
 use Rattle.curves.proofs.Near.{run_at, back}
 use Rattle.curves.proofs.bulges.inward.Goals as goal
@@ -19,9 +19,6 @@ returns-then-has c =
     run_at (has_at a.s a.row) a.s.count c.loop-i.i c.requires.1.0 c.loop-i.invariant.1.0
     (λ l. sym c.has.ensures ∙ c.if-has.true) (λ l. c.loop-i.invariant.1.1)
 
-pub overflow_add-i : goal.overflow_add-i
-overflow_add-i c = record { fits = omega (arith, c.requires.0.few, c.loop-i.invariant.1.0) }
-
 pub loop-i-preserved : goal.loop-i-preserved
 loop-i-preserved c =
     let a = c.args in
@@ -30,5 +27,8 @@ loop-i-preserved c =
 pub returns : goal.returns
 returns c =
     let a = c.args in
-    run_at (has_at a.s a.row) a.s.count c.loop-i.i c.requires.1.0 c.loop-i.invariant.1.0 (λ l. absurd (omega (arith, c.loop-i-test.false)))
-    (λ l. c.loop-i.invariant.1.1)
+    let i = c.loop-i.i in
+    let half = (a.s.count + 1) / 2 in
+    let e : half ≡ i = omega (arith, c.loop-i-test.false, c.loop-i.invariant.1.0) in
+    run_at (has_at a.s a.row) a.s.count half c.requires.1.0 (omega arith) (λ l. absurd (omega arith))
+    (λ l. ap (λ (k : ℕ). has_at a.s a.row (k - 1)) e ∙ c.loop-i.invariant.1.1)

@@ -5,6 +5,3 @@ use Rattle.curves.proofs.bulges.outward.Given as goal
 
 abbrev pub invariant-loop-i : goal.invariant-loop-i
 invariant-loop-i l = (2 * l.i < l.s.count) × (has_at l.s l.row l.i ≡ true)
-
-abbrev pub decreases-loop-i : goal.decreases-loop-i
-decreases-loop-i l = l.i

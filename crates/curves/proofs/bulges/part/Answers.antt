@@ -6,7 +6,7 @@ use Rattle.curves.proofs.bulges.part.Goals as goal
 
 pub int_to_float-n : goal.int_to_float-n
 int_to_float-n c =
-    exact c.less-k.result (omega (arith, c.less-k.ensures, c.gap-far.ensures, c.requires.0.few, c.requires.0.bent, c.requires.1))
+    exact c.saturating_sub-k.result (omega (arith, c.saturating_sub-k.ensures, c.abs_diff-far.ensures, c.requires.0.few, c.requires.0.bent, c.requires.1))
 
 pub int_to_float-n-2 : goal.int_to_float-n-2
 int_to_float-n-2 c =
@@ -16,8 +16,8 @@ pub returns : goal.returns
 unfolding part_on part_at
 returns c =
     rw (
-      plain c.less-k.result (omega (arith, c.less-k.ensures, c.gap-far.ensures, c.requires.0.few, c.requires.0.bent, c.requires.1)),
+      plain c.saturating_sub-k.result (omega (arith, c.saturating_sub-k.ensures, c.abs_diff-far.ensures, c.requires.0.few, c.requires.0.bent, c.requires.1)),
       plain c.args.s.by (omega (arith, c.requires.0.small)),
-      c.less-k.ensures,
-      c.gap-far.ensures,
+      c.saturating_sub-k.ensures,
+      c.abs_diff-far.ensures,
     )

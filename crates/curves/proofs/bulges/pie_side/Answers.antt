@@ -4,4 +4,4 @@ use Rattle.curves.proofs.bulges.pie_side.Goals as goal
 
 pub returns : goal.returns
 unfolding pie_side
-returns c = rw c.at_least_one.ensures
+returns c = rw c.max.ensures

@@ -4,4 +4,4 @@ use Rattle.curves.proofs.bulges.round_side.Goals as goal
 
 pub returns : goal.returns
 unfolding round_side
-returns c = rw (c.at_least_one-k.ensures, c.smaller.ensures)
+returns c = rw (c.max-k.ensures, c.min.ensures)

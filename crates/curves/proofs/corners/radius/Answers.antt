@@ -14,6 +14,6 @@ pub returns : goal.returns
 unfolding of_bits
 returns c =
     let a = c.args in
-    let smaller = c.smaller-n in
+    let least = c.min-n in
     let nearest-u32-to-f32 = c.nearest_u32_to_f32 in
-    made a.arc a.side smaller.result nearest-u32-to-f32.result c.max.result smaller.ensures nearest-u32-to-f32.ensures c.max.ensures
+    made a.arc a.side least.result nearest-u32-to-f32.result c.max.result least.ensures nearest-u32-to-f32.ensures c.max.ensures

@@ -16,7 +16,7 @@ pub nearest_to-by-requires : goal.nearest_to-by-requires
 nearest_to-by-requires c = tt
 
 pub loop-j-init : goal.loop-j-init
-loop-j-init c = filled_none c.requires.1
+loop-j-init c = filled_none c.told-ts
 
 pub overflow_cast-ts : goal.overflow_cast-ts
 overflow_cast-ts c = record { fits = omega (arith, c.loop-j-test.true) }
@@ -27,12 +27,6 @@ offset_bounds-ts-j c = record { fits = omega (arith, c.loop-j-test.true) }
 pub bounds-ts-j : goal.bounds-ts-j
 bounds-ts-j c = omega (arith, c.loop-j-test.true, c.loop-j.invariant.long)
 
-pub overflow_add-j : goal.overflow_add-j
-overflow_add-j c = record { fits = omega (arith, c.loop-j-test.true) }
-
-pub loop-j-smaller : goal.loop-j-smaller
-loop-j-smaller c = omega (arith, c.loop-j-test.true)
-
 pub loop-j-preserved : goal.loop-j-preserved
 loop-j-preserved c =
     let a = c.args in
@@ -40,9 +34,6 @@ loop-j-preserved c =
     let l = c.loop-j in
     filled_more c.angle_at.result c.loop-j-test.true
     (by_steps a.start a.sweep (a.i + l.j) a.steps n.result c.angle_at.result n.ensures c.angle_at.ensures) l.invariant
-
-pub shape_of-ts : goal.shape_of-ts
-shape_of-ts c = c.loop-j.invariant.long ∙ sym c.requires.1
 
 pub returns : goal.returns
 returns c =

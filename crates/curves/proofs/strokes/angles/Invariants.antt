@@ -7,6 +7,3 @@ use Rattle.curves.proofs.strokes.angles.Given as goal
 
 abbrev pub invariant-loop-j : goal.invariant-loop-j
 invariant-loop-j l = Filled nan (λ (k : ℕ). stroke_angle l.start l.sweep (l.i + k) l.steps) l.j l.ts
-
-abbrev pub decreases-loop-j : goal.decreases-loop-j
-decreases-loop-j l = 16 - l.j

@@ -7,13 +7,13 @@ use Rattle.curves.proofs.strokes.Sixteen.{filled_none, filled_more, mapped}
 use Rattle.curves.proofs.strokes.sines_of.Goals as goal
 
 pub loop-j-init : goal.loop-j-init
-loop-j-init c = let p = c.requires in (filled_none p.1.0, filled_none p.1.1)
+loop-j-init c = (filled_none c.told-ss, filled_none c.told-cs)
 
 pub offset_bounds-ts-j : goal.offset_bounds-ts-j
 offset_bounds-ts-j c = omega (arith, c.loop-j-test.true)
 
 pub bounds-ts-j : goal.bounds-ts-j
-bounds-ts-j c = omega (arith, c.loop-j-test.true, c.requires.0)
+bounds-ts-j c = omega (arith, c.loop-j-test.true, c.told-ts)
 
 pub sine_cosine-t-requires : goal.sine_cosine-t-requires
 sine_cosine-t-requires c = tt
@@ -30,12 +30,6 @@ offset_bounds-cs-j c = omega (arith, c.loop-j-test.true)
 pub bounds-cs-j : goal.bounds-cs-j
 bounds-cs-j c = omega (arith, c.loop-j-test.true, c.loop-j.invariant.1.long)
 
-pub overflow_add-j : goal.overflow_add-j
-overflow_add-j c = omega (arith, c.loop-j-test.true)
-
-pub loop-j-smaller : goal.loop-j-smaller
-loop-j-smaller c = omega (arith, c.loop-j-test.true)
-
 pub loop-j-preserved : goal.loop-j-preserved
 unfolding sine_cosine_of
 loop-j-preserved c =
@@ -45,13 +39,7 @@ loop-j-preserved c =
       filled_more t.result.cosine c.loop-j-test.true (ap (λ (r : SineCosine). r.cosine) t.ensures) l.1,
     )
 
-pub shape_of-ss : goal.shape_of-ss
-shape_of-ss c = c.loop-j.invariant.0.long ∙ sym c.requires.1.0
-
-pub shape_of-cs : goal.shape_of-cs
-shape_of-cs c = c.loop-j.invariant.1.long ∙ sym c.requires.1.1
-
 pub returns : goal.returns
 returns c =
     let l = c.loop-j in
-    (mapped nan sine_of c.args.ts.now l.ss c.requires.0 c.loop-j-test.false l.invariant.0, mapped nan cosine_of c.args.ts.now l.cs c.requires.0 c.loop-j-test.false l.invariant.1)
+    (mapped nan sine_of c.args.ts.now l.ss c.told-ts c.loop-j-test.false l.invariant.0, mapped nan cosine_of c.args.ts.now l.cs c.told-ts c.loop-j-test.false l.invariant.1)

@@ -7,6 +7,3 @@ use Rattle.curves.proofs.strokes.sines_of.Given as goal
 
 abbrev pub invariant-loop-j : goal.invariant-loop-j
 invariant-loop-j l = (Filled nan (λ (i : ℕ). sine_of (get_or l.ts i nan)) l.j l.ss) × (Filled nan (λ (i : ℕ). cosine_of (get_or l.ts i nan)) l.j l.cs)
-
-abbrev pub decreases-loop-j : goal.decreases-loop-j
-decreases-loop-j l = 16 - l.j

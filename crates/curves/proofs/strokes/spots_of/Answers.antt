@@ -7,13 +7,13 @@ use Rattle.curves.proofs.strokes.Sixteen.{filled_none, filled_more, mapped}
 use Rattle.curves.proofs.strokes.spots_of.Goals as goal
 
 pub loop-j-init : goal.loop-j-init
-loop-j-init c = let p = c.requires in (filled_none p.ps_len.0, filled_none p.ps_len.1)
+loop-j-init c = (filled_none c.told-ps, filled_none c.told-qs)
 
 pub offset_bounds-cs-j : goal.offset_bounds-cs-j
 offset_bounds-cs-j c = omega (arith, c.loop-j-test.true)
 
 pub bounds-cs-j : goal.bounds-cs-j
-bounds-cs-j c = omega (arith, c.loop-j-test.true, c.requires.ss_len.1)
+bounds-cs-j c = omega (arith, c.loop-j-test.true, c.told-cs)
 
 pub round_lifted-requires : goal.round_lifted-requires
 round_lifted-requires c = tt
@@ -29,7 +29,7 @@ offset_bounds-ss-j c = omega (arith, c.loop-j-test.true)
 
 pub bounds-ss-j : goal.bounds-ss-j
 bounds-ss-j c =
-    omega (arith, c.loop-j-test.true, c.requires.ss_len.0)
+    omega (arith, c.loop-j-test.true, c.told-ss)
 
 pub round_lifted-requires-in-loop-j : goal.round_lifted-requires-in-loop-j
 round_lifted-requires-in-loop-j c = tt
@@ -41,28 +41,16 @@ pub bounds-qs-j : goal.bounds-qs-j
 bounds-qs-j c =
     omega (arith, c.loop-j-test.true, c.loop-j.invariant.1.long)
 
-pub overflow_add-j : goal.overflow_add-j
-overflow_add-j c = omega (arith, c.loop-j-test.true)
-
-pub loop-j-smaller : goal.loop-j-smaller
-loop-j-smaller c = omega (arith, c.loop-j-test.true)
-
 pub loop-j-preserved : goal.loop-j-preserved
 unfolding x_at y_at
 loop-j-preserved c =
     let i = c.loop-j.invariant in
     (filled_more c.round_lifted.result c.loop-j-test.true c.round_lifted.ensures i.0, filled_more c.round_lifted-in-loop-j.result c.loop-j-test.true c.round_lifted-in-loop-j.ensures i.1)
 
-pub shape_of-ps : goal.shape_of-ps
-shape_of-ps c = c.loop-j.invariant.0.long ∙ sym c.requires.ps_len.0
-
-pub shape_of-qs : goal.shape_of-qs
-shape_of-qs c = c.loop-j.invariant.1.long ∙ sym c.requires.ps_len.1
-
 pub returns : goal.returns
 returns c =
     let l = c.loop-j in
     let a = c.args in record {
-      ps_after = mapped 0 (λ (x : Float). lifted (x_at a.o x)) a.cs.now l.ps c.requires.ss_len.1 c.loop-j-test.false l.invariant.0;
-      qs_after = mapped 0 (λ (x : Float). lifted (y_at a.o x)) a.ss.now l.qs c.requires.ss_len.0 c.loop-j-test.false l.invariant.1;
+      ps_after = mapped 0 (λ (x : Float). lifted (x_at a.o x)) a.cs.now l.ps c.told-cs c.loop-j-test.false l.invariant.0;
+      qs_after = mapped 0 (λ (x : Float). lifted (y_at a.o x)) a.ss.now l.qs c.told-ss c.loop-j-test.false l.invariant.1;
     }

@@ -8,6 +8,3 @@ use Rattle.curves.proofs.strokes.spots_of.Given as goal
 
 abbrev pub invariant-loop-j : goal.invariant-loop-j
 invariant-loop-j l = (Filled 0 (λ (i : ℕ). lifted (x_at l.o (get_or l.cs i nan))) l.j l.ps) × (Filled 0 (λ (i : ℕ). lifted (y_at l.o (get_or l.ss i nan))) l.j l.qs)
-
-abbrev pub decreases-loop-j : goal.decreases-loop-j
-decreases-loop-j l = 16 - l.j

@@ -25,40 +25,17 @@ module _ (o : Oval) (sweep : Float) (width height : ℕ) (m r s : Float) (n k : 
   abbrev Held : ℕ → Type 0
   Held a = (a ≡ steps_of o sweep width height) × (1 ≤ a) × (a ≤ 16 * max (width + height) 1)
 
-  low : n * 2 < 1 → Held 1
-  low h = (omega (arith, is), omega arith, omega arith)
-
-  high : 1 ≤ n * 2 → k < n * 2 → Held k
-  high h i = (omega (arith, is), omega arith, omega arith)
-
-  between : 1 ≤ n * 2 → n * 2 ≤ k → Held (n * 2)
-  between h i = (omega (arith, is), omega arith, omega arith)
+  held : (a b : ℕ) → a ≡ max (n * 2) 1 → b ≡ min a k → Held b
+  held a b h i = (omega (arith, is), omega arith, omega arith)
 
 pub overflow_mul-n : goal.overflow_mul-n
 overflow_mul-n c = record { fits = omega (arith, c.ceil_size-n.ensures, ceil_most (mul binary32 c.abs.result c.max-radius.result)) }
-
-pub returns-then-n-lt1 : goal.returns-then-n-lt1
-unfolding of_bits
-returns-then-n-lt1 c =
-    let a = c.args in
-    low a.o a.sweep a.width a.height c.max.result c.max-radius.result
-    c.abs.result c.ceil_size-n.result c.most_steps-most.result c.max.ensures
-    c.max-radius.ensures c.abs.ensures c.ceil_size-n.ensures c.most_steps-most.ensures c.if-n-lt1.true
-
-pub returns-then-n-most : goal.returns-then-n-most
-unfolding of_bits
-returns-then-n-most c =
-    let a = c.args in
-    high a.o a.sweep a.width a.height c.max.result c.max-radius.result
-    c.abs.result c.ceil_size-n.result c.most_steps-most.result
-    c.max.ensures c.max-radius.ensures c.abs.ensures
-    c.ceil_size-n.ensures c.most_steps-most.ensures c.if-n-lt1.false c.if-n-most.true
 
 pub returns : goal.returns
 unfolding of_bits
 returns c =
     let a = c.args in
-    between a.o a.sweep a.width a.height c.max.result c.max-radius.result
-    c.abs.result c.ceil_size-n.result c.most_steps-most.result
+    held a.o a.sweep a.width a.height c.max.result c.max-radius.result
+    c.abs.result c.ceil_size-n.result c.most_steps.result
     c.max.ensures c.max-radius.ensures c.abs.ensures
-    c.ceil_size-n.ensures c.most_steps-most.ensures c.if-n-lt1.false c.if-n-most.false
+    c.ceil_size-n.ensures c.most_steps.ensures c.max-2.result c.min.result c.max-2.ensures c.min.ensures

@@ -10,12 +10,10 @@ use Rattle.ovals.proofs.strokes.Stroking.{sixteen, all, stroking_start, stroking
 use Rattle.ovals.proofs.strokes.stroke_steps.Goals as goal
 
 pub loop-i-init : goal.loop-i-init
-loop-i-init c = let a = c.args in (stroking_start a.o a.start a.sweep a.steps, (refl, refl))
+loop-i-init c = let a = c.args in stroking_start a.o a.start a.sweep a.steps
 
 pub spots_from-requires : goal.spots_from-requires
-spots_from-requires c =
-    let l = c.loop-i.invariant in
-    (omega (arith, c.loop-i-test.true, c.requires.1.1.0), l.1)
+spots_from-requires c = omega (arith, c.loop-i-test.true, c.requires.1.1.0)
 
 pub overflow_add-steps : goal.overflow_add-steps
 overflow_add-steps c = record { fits = omega (arith, c.requires.1.1.0) }
@@ -37,12 +35,12 @@ dab_spots-t-requires c =
     let p = c.args in
     let k = c.spots_from.ensures in
     record {
-      sized = (sized-length (dabbing_length l.invariant.0.rest) c.requires.0, (c.requires.1.0, few));
+      sized = (sized-length (dabbing_length l.invariant.rest) c.requires.0, (c.requires.1.0, few));
       ps_len = (
         all p.o p.start p.sweep p.steps l.i (λ (t : Spot). lifted t.x) k.0,
         (
           all p.o p.start p.sweep p.steps l.i (λ (t : Spot). lifted t.y) k.1,
-          stroking_room p.o p.start p.sweep p.steps m.result c.requires.1.1.0 c.requires.1.1.1 few l.invariant.0,
+          stroking_room p.o p.start p.sweep p.steps m.result c.requires.1.1.0 c.requires.1.1.1 few l.invariant,
         ),
       );
     }
@@ -64,19 +62,14 @@ loop-i-preserved c =
     let k = c.spots_from.ensures in
     let few : m.result ≤ 16 = omega (arith, m.ensures) in
     let held : l.i + m.result ≤ suc a.steps = omega (arith, m.ensures, c.loop-i-test.true) in
-    let same = sixteen a.o a.start a.sweep a.steps l.i k.0 k.1 m.result few in (
-      stroking_turn a.o a.start a.sweep a.steps m.result held
-          (d.ensures ∙ ap (λ (ps : List Point). dabs a.canvas a.xs a.ys (inked a.ink) ps (work l.b l.t)) same) l.invariant.0,
-      (
-        all a.o a.start a.sweep a.steps l.i (λ (t : Spot). lifted t.x) k.0,
-        all a.o a.start a.sweep a.steps l.i (λ (t : Spot). lifted t.y) k.1,
-      ),
-    )
+    let same = sixteen a.o a.start a.sweep a.steps l.i k.0 k.1 m.result few in
+    stroking_turn a.o a.start a.sweep a.steps m.result held
+    (d.ensures ∙ ap (λ (ps : List Point). dabs a.canvas a.xs a.ys (inked a.ink) ps (work l.b l.t)) same) l.invariant
 
 pub shape_of-b : goal.shape_of-b
-shape_of-b c = dabbing_length c.loop-i.invariant.0.rest
+shape_of-b c = dabbing_length c.loop-i.invariant.rest
 
 pub returns : goal.returns
 returns c =
     let a = c.args in
-    stroking_end a.o a.start a.sweep a.steps c.loop-i-test.false c.loop-i.invariant.0
+    stroking_end a.o a.start a.sweep a.steps c.loop-i-test.false c.loop-i.invariant
