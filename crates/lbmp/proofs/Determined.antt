@@ -5,8 +5,8 @@ use Prim.Native.Nat.{ℕ}
 use native.Mathlib.Omega.{arith}
 use Rattle.lbmp.specs.declared.Refusal.{Refusal}
 use Rattle.lbmp.specs.declared.Refusal.TheVariants.{Invalid, BadType, Room}
-use Rattle.lbmp.specs.declared.Judged.{Judged}
-use Rattle.lbmp.specs.declared.Judged.TheVariants.{Refused, Sound}
+use Rattle.lbmp.specs.declared.Image.{Image}
+use Rattle.std.specs.Prelude.{Result, Ok, Err}
 use Rattle.lbmp.specs.Faults.{number}
 use Rattle.lbmp.specs.Call.{Reading, reads, Outcome, outcome}
 use Rattle.lbmp.proofs.Answers.{no_zero}
@@ -26,14 +26,14 @@ same_number Room Invalid e = absurd (omega arith)
 same_number Room BadType e = absurd (omega arith)
 same_number Room Room e = refl
 
-reads_same : (j k : Judged) → reads j ≡ reads k → j ≡ k
+reads_same : (j k : Result Image Refusal) → reads j ≡ reads k → j ≡ k
 unfolding reads
-reads_same (Refused r) (Refused s) e = ap Refused (same_number r s (ap (λ (k : Reading). k.status) e))
-reads_same (Refused r) (Sound i) e = absurd (no_zero r (ap (λ (k : Reading). k.status) e))
-reads_same (Sound i) (Refused r) e = absurd (no_zero r (sym (ap (λ (k : Reading). k.status) e)))
-reads_same (Sound i) (Sound j) e = ap (λ (k : Reading). Sound (record { width = k.width; height = k.height; clear = k.clear })) e
+reads_same (Err r) (Err s) e = ap Err (same_number r s (ap (λ (k : Reading). k.status) e))
+reads_same (Err r) (Ok i) e = absurd (no_zero r (ap (λ (k : Reading). k.status) e))
+reads_same (Ok i) (Err r) e = absurd (no_zero r (sym (ap (λ (k : Reading). k.status) e)))
+reads_same (Ok i) (Ok j) e = ap (λ (k : Reading). Ok (record { width = k.width; height = k.height; clear = k.clear })) e
 
-leaves-same : (j k : Judged) (ws ws' : List ℕ) → outcome (reads j) ws ≡ outcome (reads k) ws' → (j ≡ k) × (ws ≡ ws')
+leaves-same : (j k : Result Image Refusal) (ws ws' : List ℕ) → outcome (reads j) ws ≡ outcome (reads k) ws' → (j ≡ k) × (ws ≡ ws')
 leaves-same j k ws ws' e = (reads_same j k (ap (λ (o : Outcome). o.answer) e), ap (λ (o : Outcome). o.words) e)
 
 pub number_determined : (κs : _) (a : _) (s s' : _) (r r' : _) → number_of_lem.Post κs a r s → number_of_lem.Post κs a r' s' → r ≡ r'

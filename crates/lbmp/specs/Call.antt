@@ -1,11 +1,9 @@
 -- What judging and decoding answer, and what the lent words hold then.
-use Rattle.std.specs.Prelude.{List, ◌++◌, ℕ, length, drop}
-use Rattle.lbmp.specs.declared.Judged.{Judged}
-use Rattle.lbmp.specs.declared.Judged.TheVariants.{Refused, Sound}
-use Rattle.lbmp.specs.declared.faults.Verdict.{Verdict}
-use Rattle.lbmp.specs.declared.faults.Verdict.TheVariants as verdict
+use Rattle.std.specs.Prelude.{List, ◌++◌, Result, Ok, Err, ℕ, length, drop}
+use Rattle.lbmp.specs.declared.Refusal.{Refusal}
+use Rattle.lbmp.specs.declared.Image.{Image}
 use Rattle.lbmp.specs.File.{header_of}
-use Rattle.lbmp.specs.Faults.{number, or_else, verdict, room_fault}
+use Rattle.lbmp.specs.Faults.{Verdict, number, or_else, verdict, room_fault}
 use Rattle.lbmp.specs.Image.{pixels, image, clear_of}
 
 -- A status, the dimensions and the transparent count.
@@ -19,16 +17,16 @@ abbrev pub reading : ℕ → ℕ → ℕ → ℕ → Reading
 reading s w h c = record { status = s; width = w; height = h; clear = c }
 
 -- 01's number and values of each answer; a refusal gives "dimensions and count 0".
-unfoldable pub reads : Judged → Reading
-reads (Refused r) = reading (number r) 0 0 0
-reads (Sound i) = reading 0 i.width i.height i.clear
+unfoldable pub reads : Result Image Refusal → Reading
+reads (Err r) = reading (number r) 0 0 0
+reads (Ok i) = reading 0 i.width i.height i.clear
 
 abbrev pub reading_of : List ℕ → Reading
 reading_of f = reading 0 (header_of f).width (header_of f).height (clear_of f)
 
 abbrev pub ruled : Verdict → List ℕ → Reading
-ruled verdict.Sound f = reading_of f
-ruled (verdict.Faulty r) f = reading (number r) 0 0 0
+ruled (Ok u) f = reading_of f
+ruled (Err r) f = reading (number r) 0 0 0
 
 -- Judging: everything but ROOM.
 unfoldable pub judgement : List ℕ → Reading
@@ -43,8 +41,8 @@ outcome a ws = record { answer = a; words = ws }
 
 -- "Words past the last pixel are not written"; a refusal leaves "output as before".
 abbrev pub decoded : Verdict → List ℕ → List ℕ → Outcome
-decoded verdict.Sound f out = outcome (reading_of f) (image f ++ drop (pixels f) out)
-decoded (verdict.Faulty r) f out = outcome (reading (number r) 0 0 0) out
+decoded (Ok u) f out = outcome (reading_of f) (image f ++ drop (pixels f) out)
+decoded (Err r) f out = outcome (reading (number r) 0 0 0) out
 
 unfoldable pub decoding : List ℕ → List ℕ → Outcome
 decoding f out = decoded (or_else (verdict f) (room_fault (header_of f) (length out))) f out

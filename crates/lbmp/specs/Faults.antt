@@ -1,12 +1,10 @@
 -- Which files are refused: the first fault in the order of the tests, not the lowest number.
-use Rattle.std.specs.Prelude.{Bool, not, cond, ◌||◌, List, ℕ, ◌+◌, ◌*◌, ltb, eqb, length}
+use Rattle.std.specs.Prelude.{Bool, not, cond, ◌||◌, List, Option, Some, None, Result, Ok, Err, ℕ, ◌+◌, ◌*◌, ltb, eqb, length}
 use Rattle.lbmp.specs.declared.Refusal.{Refusal}
 use Rattle.lbmp.specs.declared.Refusal.TheVariants.{Invalid, BadType, Room}
-use Rattle.lbmp.specs.declared.faults.Verdict.{Verdict}
-use Rattle.lbmp.specs.declared.faults.Verdict.TheVariants.{Sound, Faulty}
 use Rattle.lbmp.specs.declared.header.Header.{Header}
 use Rattle.lbmp.specs.declared.header.Kind.{Kind}
-use Rattle.lbmp.specs.declared.header.Kind.TheVariants.{Greys, Rgb332, Rgb565, Unknown}
+use Rattle.lbmp.specs.declared.header.Kind.TheVariants.{Greys, Rgb332, Rgb565}
 use Rattle.lbmp.specs.File.{header_of, kind_of, expected_size, pixel_size, mask_size}
 
 -- "10 INVALID", "11 TYPE", "12 ROOM"
@@ -15,8 +13,15 @@ number Invalid = 10
 number BadType = 11
 number Room = 12
 
+-- What a test says of a file: nothing against it, or why it is refused.
+abbrev pub Verdict : Type 0
+Verdict = Result (Unit {0}) Refusal
+
+abbrev pub sound : Verdict
+sound = Ok tt
+
 abbrev pub invalid : Bool → Verdict
-invalid t = cond t (Faulty Invalid) Sound
+invalid t = cond t (Err Invalid) sound
 
 -- A number "beyond u32"
 abbrev pub beyond : ℕ → Verdict
@@ -31,23 +36,23 @@ unfoldable pub area_fault : Header → Verdict
 area_fault h = beyond (h.width * h.height)
 
 -- "type 16 with twice that beyond u32, INVALID"
-unfoldable pub twice_fault : Kind → ℕ → Verdict
-twice_fault Greys n = Sound
-twice_fault Rgb332 n = Sound
-twice_fault Rgb565 n = beyond (2 * n)
-twice_fault Unknown n = Sound
+unfoldable pub twice_fault : Option Kind → ℕ → Verdict
+twice_fault (Some Greys) n = sound
+twice_fault (Some Rgb332) n = sound
+twice_fault (Some Rgb565) n = beyond (2 * n)
+twice_fault None n = sound
 
 -- "unknown type, TYPE"
-unfoldable pub kind_fault : Kind → Verdict
-kind_fault Greys = Sound
-kind_fault Rgb332 = Sound
-kind_fault Rgb565 = Sound
-kind_fault Unknown = Faulty BadType
+unfoldable pub kind_fault : Option Kind → Verdict
+kind_fault (Some Greys) = sound
+kind_fault (Some Rgb332) = sound
+kind_fault (Some Rgb565) = sound
+kind_fault None = Err BadType
 
 -- The first of two faults.
 unfoldable pub or_else : Verdict → Verdict → Verdict
-or_else Sound d = d
-or_else (Faulty r) d = Faulty r
+or_else (Ok u) d = d
+or_else (Err r) d = Err r
 
 -- "a zero side, size not the expected one, or mask above 1, INVALID"
 unfoldable pub field_fault : Header → Verdict
@@ -57,11 +62,11 @@ field_fault h =
     || ltb 1 h.mask)
 
 -- "size doubled beyond u32 for type 2, INVALID"
-unfoldable pub planes_fault : Kind → ℕ → Verdict
-planes_fault Greys s = beyond (2 * s)
-planes_fault Rgb332 s = Sound
-planes_fault Rgb565 s = Sound
-planes_fault Unknown s = Sound
+unfoldable pub planes_fault : Option Kind → ℕ → Verdict
+planes_fault (Some Greys) s = beyond (2 * s)
+planes_fault (Some Rgb332) s = sound
+planes_fault (Some Rgb565) s = sound
+planes_fault None s = sound
 
 -- "pixel or mask bytes missing, INVALID"
 unfoldable pub bytes_fault : Header → ℕ → Verdict
@@ -80,4 +85,4 @@ verdict f = or_else (short_fault (length f)) (header_verdict (header_of f) (leng
 
 -- "then ROOM": "output has fewer words than pixels"
 unfoldable pub room_fault : Header → ℕ → Verdict
-room_fault h n = cond (ltb n (h.width * h.height)) (Faulty Room) Sound
+room_fault h n = cond (ltb n (h.width * h.height)) (Err Room) sound

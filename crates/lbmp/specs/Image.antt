@@ -1,5 +1,5 @@
 -- The pixels of a sound file: their colours, ARGB words, and how many are transparent.
-use Rattle.std.specs.Prelude.{List, ℕ, zero, suc, ◌+◌, ◌-◌, ◌*◌, take, drop}
+use Rattle.std.specs.Prelude.{List, Option, Some, None, ℕ, zero, suc, ◌+◌, ◌-◌, ◌*◌, take, drop}
 use Rattle.fields.specs.Fields.{u8_at, u16_at}
 use Rattle.words.specs.declared.Color.{Color}
 use Rattle.words.specs.Format.{rgb332, rgb565, argb}
@@ -7,7 +7,7 @@ use Rattle.words.specs.Word.{color, from_color, to_color}
 use Rattle.words.specs.Ink.{bare}
 use Rattle.words.specs.Table.{run}
 use Rattle.lbmp.specs.declared.header.Kind.{Kind}
-use Rattle.lbmp.specs.declared.header.Kind.TheVariants.{Greys, Rgb332, Rgb565, Unknown}
+use Rattle.lbmp.specs.declared.header.Kind.TheVariants.{Greys, Rgb332, Rgb565}
 use Rattle.lbmp.specs.Plane.{plane_at, plane_size, total}
 use Rattle.lbmp.specs.File.{header_of, kind_of, pixel_bytes, mask_bytes}
 
@@ -28,11 +28,11 @@ abbrev pub at565 : List ℕ → ℕ → Color
 at565 p i = to_color rgb565 (u16_at p (2 * i))
 
 -- The colour of pixel i, the pixels counted in rows of w: type 2 has two planes of n bytes, "high first"; types 8 and 16 have 01's words.
-unfoldable pub color_at : Kind → List ℕ → ℕ → ℕ → ℕ → Color
-color_at Greys p n w i = grey_at (take n p) (drop n p) w i
-color_at Rgb332 p n w i = at332 p i
-color_at Rgb565 p n w i = at565 p i
-color_at Unknown p n w i = color 0 0 0 0
+unfoldable pub color_at : Option Kind → List ℕ → ℕ → ℕ → ℕ → Color
+color_at (Some Greys) p n w i = grey_at (take n p) (drop n p) w i
+color_at (Some Rgb332) p n w i = at332 p i
+color_at (Some Rgb565) p n w i = at565 p i
+color_at None p n w i = color 0 0 0 0
 
 -- "A set mask bit makes alpha 0 and keeps the colour."
 unfoldable pub masked : ℕ → Color → Color

@@ -1,10 +1,9 @@
 -- What inner contracts cite: a walk over words, and what a sound file has.
-use Rattle.std.specs.Prelude.{List, ◌≡◌, ℕ, zero, suc, ◌+◌, ◌*◌, ◌%◌, ◌≤◌, ◌<◌, get_or, set}
+use Rattle.std.specs.Prelude.{List, None, ◌≡◌, ℕ, zero, suc, ◌+◌, ◌*◌, ◌%◌, ◌≤◌, ◌<◌, get_or, set}
 use Rattle.words.specs.declared.Color.{Color}
 use Rattle.words.specs.Format.{argb}
 use Rattle.words.specs.Word.{from_color}
 use Rattle.lbmp.specs.declared.header.Header.{Header}
-use Rattle.lbmp.specs.declared.header.Kind.TheVariants.{Unknown}
 use Rattle.lbmp.specs.Plane.{plane_at}
 use Rattle.lbmp.specs.File.{kind_of, expected_size, pixel_size, mask_size}
 
@@ -27,7 +26,7 @@ veil m w i v = veiled (plane_at m w i) v
 
 -- What the fields of a header that is not refused are.
 pub record Fair (h : Header) : Type 0 where
-  pub known : kind_of h.kind ≡ Unknown → ⊥
+  pub known : kind_of h.kind ≡ None → ⊥
   pub few : h.width * h.height ≤ 4294967295
   pub wide : 0 < h.width
   pub high : 0 < h.height

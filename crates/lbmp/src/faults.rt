@@ -1,132 +1,82 @@
 // Which files are refused: the tests in their order.
-ghost use Rattle.std.specs.Prelude.{◌≡◌, ◌*◌, ◌≤◌};
-ghost use Rattle.lbmp.specs.Faults.{area_fault, twice_fault, kind_fault, field_fault, planes_fault, bytes_fault, header_verdict, verdict};
+#![tactic(auto, unfolding(crate::specs::Faults::area_fault, crate::specs::Faults::twice_fault, crate::specs::Faults::field_fault, crate::specs::Faults::planes_fault, crate::specs::Faults::bytes_fault, crate::specs::Faults::verdict, crate::specs::Faults::short_fault, crate::specs::Faults::or_else))]
+ghost use Rattle.std.specs.Prelude.{◌≡◌, ◌*◌, ◌≤◌, Some};
+ghost use Rattle.lbmp.specs.File.{kind_of};
+ghost use Rattle.lbmp.specs.Faults.{area_fault, twice_fault, field_fault, planes_fault, bytes_fault, header_verdict, verdict};
 
 use crate::Refusal;
-use crate::header::{Header, Kind, kind_of};
+use crate::header::{Header, Kind, expected_size, kind_of, mask_size, pixel_size, read_header};
 
-#[derive(Clone, Copy)]
-pub(crate) enum Verdict {
-    Sound,
-    Faulty(Refusal),
-}
-
-fn area_fault(h: Header) -> Verdict
+fn area_fault(h: Header) -> Result<(), Refusal>
     ensures { result ≡ area_fault h }
 {
-    if 4294967295 < h.width as u64 * h.height as u64 {
-        return Verdict::Faulty(Refusal::Invalid);
+    if 4294967295 < u64::from(h.width) * u64::from(h.height) {
+        return Err(Refusal::Invalid);
     }
-    Verdict::Sound
+    Ok(())
 }
 
-fn twice_fault(kind: Kind, n: u64) -> Verdict
+fn twice_fault(kind: Option<Kind>, n: u64) -> Result<(), Refusal>
     requires { n ≤ 4294967295 }
     ensures { result ≡ twice_fault kind n }
 {
     match kind {
-        Kind::Greys => Verdict::Sound,
-        Kind::Rgb332 => Verdict::Sound,
-        Kind::Rgb565 => {
-            if 4294967295 < 2 * n {
-                return Verdict::Faulty(Refusal::Invalid);
-            }
-            Verdict::Sound
-        }
-        Kind::Unknown => Verdict::Sound,
+        Some(Kind::Rgb565) if 4294967295 < 2 * n => Err(Refusal::Invalid),
+        _ => Ok(()),
     }
 }
 
-fn kind_fault(kind: Kind) -> Verdict
-    ensures { result ≡ kind_fault kind }
-{
-    match kind {
-        Kind::Greys => Verdict::Sound,
-        Kind::Rgb332 => Verdict::Sound,
-        Kind::Rgb565 => Verdict::Sound,
-        Kind::Unknown => Verdict::Faulty(Refusal::BadType),
-    }
-}
-
-fn field_fault(h: Header) -> Verdict
-    requires { h.width * h.height ≤ 4294967295 }
+fn field_fault(h: Header, kind: Kind) -> Result<(), Refusal>
+    requires { (h.width * h.height ≤ 4294967295) × (kind_of h.kind ≡ Some kind) }
     ensures { result ≡ field_fault h }
 {
-    if h.width == 0 {
-        return Verdict::Faulty(Refusal::Invalid);
+    if h.width == 0 || h.height == 0 {
+        return Err(Refusal::Invalid);
     }
-    if h.height == 0 {
-        return Verdict::Faulty(Refusal::Invalid);
+    if u64::from(h.size) != expected_size(kind, h.width, h.height) || 1 < h.mask {
+        return Err(Refusal::Invalid);
     }
-    if h.size as u64 != crate::header::expected_size(kind_of(h.kind), h.width, h.height) {
-        return Verdict::Faulty(Refusal::Invalid);
-    }
-    if 1 < h.mask {
-        return Verdict::Faulty(Refusal::Invalid);
-    }
-    Verdict::Sound
+    Ok(())
 }
 
-fn planes_fault(kind: Kind, size: u32) -> Verdict
-    ensures { result ≡ planes_fault kind size }
+fn planes_fault(kind: Kind, size: u32) -> Result<(), Refusal>
+    ensures { result ≡ planes_fault (Some kind) size }
 {
     match kind {
-        Kind::Greys => {
-            if 4294967295 < 2 * size as u64 {
-                return Verdict::Faulty(Refusal::Invalid);
-            }
-            Verdict::Sound
-        }
-        Kind::Rgb332 => Verdict::Sound,
-        Kind::Rgb565 => Verdict::Sound,
-        Kind::Unknown => Verdict::Sound,
+        Kind::Greys if 4294967295 < 2 * u64::from(size) => Err(Refusal::Invalid),
+        _ => Ok(()),
     }
 }
 
-fn bytes_fault(h: Header, n: u64) -> Verdict
+fn bytes_fault(h: Header, n: u64) -> Result<(), Refusal>
     ensures { result ≡ bytes_fault h n }
 {
-    if n < 24 + crate::header::pixel_size(h) + crate::header::mask_size(h) {
-        return Verdict::Faulty(Refusal::Invalid);
+    if n < 24 + pixel_size(h) + mask_size(h) {
+        return Err(Refusal::Invalid);
     }
-    Verdict::Sound
+    Ok(())
 }
 
 // The first fault that a header of a file of n bytes has.
-fn header_verdict(h: Header, n: u64) -> Verdict
+#[tactic(auto, using(crate::proofs::faults::Verdicts::first_fault), unfolding(crate::specs::Faults::header_verdict))]
+fn header_verdict(h: Header, n: u64) -> Result<(), Refusal>
     ensures { result ≡ header_verdict h n }
 {
-    let a = area_fault(h);
-    let Verdict::Sound = a else {
-        return a;
-    };
+    area_fault(h)?;
     let kind = kind_of(h.kind);
-    let t = twice_fault(kind, h.width as u64 * h.height as u64);
-    let Verdict::Sound = t else {
-        return t;
-    };
-    let k = kind_fault(kind);
-    let Verdict::Sound = k else {
-        return k;
-    };
-    let f = field_fault(h);
-    let Verdict::Sound = f else {
-        return f;
-    };
-    let p = planes_fault(kind, h.size);
-    let Verdict::Sound = p else {
-        return p;
-    };
+    twice_fault(kind, u64::from(h.width) * u64::from(h.height))?;
+    let kind = kind.ok_or(Refusal::BadType)?;
+    field_fault(h, kind)?;
+    planes_fault(kind, h.size)?;
     bytes_fault(h, n)
 }
 
 // The first fault of a file, ROOM apart.
-pub(crate) fn verdict_of(file: &[u8]) -> Verdict
+pub(crate) fn verdict_of(file: &[u8]) -> Result<(), Refusal>
     ensures { result ≡ verdict file.now }
 {
     if file.len() < 24 {
-        return Verdict::Faulty(Refusal::Invalid);
+        return Err(Refusal::Invalid);
     }
-    let h = crate::header::read_header(file);
-    header_verdict(h, file.len() as u64)
+    header_verdict(read_header(file), file.len() as u64)
 }

@@ -1,7 +1,8 @@
 // The header of a file, and the parts that follow it.
-ghost use Rattle.std.specs.Prelude.{◌≡◌, ◌+◌, ◌*◌, ◌≤◌, ◌<◌, length};
+#![tactic(auto, unfolding(crate::specs::Plane::plane_size, crate::specs::File::header_of, crate::specs::File::kind_of, crate::specs::File::expected_size, crate::specs::File::image_size, crate::specs::File::mask_size))]
+ghost use Rattle.std.specs.Prelude.{◌≡◌, ◌+◌, ◌*◌, ◌≤◌, ◌<◌, length, Some};
 ghost use Rattle.lbmp.specs.Plane.{plane_size};
-ghost use Rattle.lbmp.specs.File.{header_of, kind_of, expected_size, image_size, pixel_size, mask_size, pixel_bytes, mask_bytes};
+ghost use Rattle.lbmp.specs.File.{header_of, kind_of, expected_size, pixel_size, mask_size, pixel_bytes, mask_bytes};
 ghost use Rattle.lbmp.specs.Walk.{Whole};
 
 use fields::u32_at;
@@ -21,35 +22,29 @@ pub(crate) enum Kind {
     Greys,
     Rgb332,
     Rgb565,
-    Unknown,
 }
 
 pub(crate) fn read_header(file: &[u8]) -> Header
     requires { 24 ≤ length file.now }
     ensures { result ≡ header_of file.now }
 {
-    let kind = u32_at(file, 4);
-    let width = u32_at(file, 8);
-    let height = u32_at(file, 12);
-    let size = u32_at(file, 16);
-    let mask = u32_at(file, 20);
     Header {
-        kind,
-        width,
-        height,
-        size,
-        mask,
+        kind: u32_at(file, 4),
+        width: u32_at(file, 8),
+        height: u32_at(file, 12),
+        size: u32_at(file, 16),
+        mask: u32_at(file, 20),
     }
 }
 
-pub(crate) fn kind_of(kind: u32) -> Kind
+pub(crate) fn kind_of(kind: u32) -> Option<Kind>
     ensures { result ≡ kind_of kind }
 {
     match kind {
-        2 => Kind::Greys,
-        8 => Kind::Rgb332,
-        16 => Kind::Rgb565,
-        _ => Kind::Unknown,
+        2 => Some(Kind::Greys),
+        8 => Some(Kind::Rgb332),
+        16 => Some(Kind::Rgb565),
+        _ => None,
     }
 }
 
@@ -57,37 +52,28 @@ pub(crate) fn kind_of(kind: u32) -> Kind
 pub(crate) fn plane_size(width: u32, height: u32) -> u64
     ensures { (result ≡ plane_size width height) × (result < 4611686018427387904) }
 {
-    (height as u64 + 7) / 8 * width as u64
+    u64::from(height).div_ceil(8) * u64::from(width)
 }
 
 pub(crate) fn expected_size(kind: Kind, width: u32, height: u32) -> u64
     requires { width * height ≤ 4294967295 }
-    ensures { result ≡ expected_size kind width height }
+    ensures { result ≡ expected_size (Some kind) width height }
 {
     match kind {
         Kind::Greys => plane_size(width, height),
-        Kind::Rgb332 => width as u64 * height as u64,
-        Kind::Rgb565 => 2 * (width as u64 * height as u64),
-        Kind::Unknown => 0,
+        Kind::Rgb332 => u64::from(width) * u64::from(height),
+        Kind::Rgb565 => 2 * (u64::from(width) * u64::from(height)),
     }
 }
 
 // The bytes of the pixels.
-fn image_size(kind: Kind, size: u32) -> u64
-    ensures { (result ≡ image_size kind size) × (result < 8589934592) }
-{
-    match kind {
-        Kind::Greys => 2 * size as u64,
-        Kind::Rgb332 => size as u64,
-        Kind::Rgb565 => size as u64,
-        Kind::Unknown => size as u64,
-    }
-}
-
 pub(crate) fn pixel_size(h: Header) -> u64
     ensures { (result ≡ pixel_size h) × (result < 8589934592) }
 {
-    image_size(kind_of(h.kind), h.size)
+    match kind_of(h.kind) {
+        Some(Kind::Greys) => 2 * u64::from(h.size),
+        _ => u64::from(h.size),
+    }
 }
 
 // The bytes of the mask: none where there is no mask.

@@ -1,5 +1,5 @@
 // LBMP, the phone's bitmap file: judged, and decoded to ARGB words.
-#![tactic(auto)]
+#![tactic(auto, unfolding(crate::specs::Faults::number))]
 
 ghost use Rattle.std.specs.Prelude.{◌≡◌};
 ghost use Rattle.lbmp.specs.Faults.{number};
@@ -10,10 +10,8 @@ mod header;
 mod paint;
 mod planes;
 
-use faults::Verdict;
-
 // Why a file is refused.
-#[derive(Clone, Copy)]
+#[derive(Clone, Copy, Debug, PartialEq, Eq)]
 pub enum Refusal {
     Invalid,
     BadType,
@@ -21,7 +19,7 @@ pub enum Refusal {
 }
 
 // The sides of an image, and how many of its pixels are transparent.
-#[derive(Clone, Copy)]
+#[derive(Clone, Copy, Debug, PartialEq, Eq)]
 pub struct Image {
     pub width: u32,
     pub height: u32,
@@ -29,11 +27,7 @@ pub struct Image {
 }
 
 // What judging and decoding answer.
-#[derive(Clone, Copy)]
-pub enum Judged {
-    Refused(Refusal),
-    Sound(Image),
-}
+pub type Judged = Result<Image, Refusal>;
 
 impl Refusal {
     // 01's number.
@@ -52,13 +46,10 @@ impl Refusal {
 pub fn judge(file: &[u8]) -> Judged
     ensures { reads result ≡ judgement file.now }
 {
-    let v = faults::verdict_of(file);
-    if let Verdict::Faulty(r) = v {
-        return Judged::Refused(r);
-    }
+    faults::verdict_of(file)?;
     let h = header::read_header(file);
     let clear = planes::clear_of(header::mask_bytes(file, h), h);
-    Judged::Sound(Image {
+    Ok(Image {
         width: h.width,
         height: h.height,
         clear,
@@ -69,13 +60,10 @@ pub fn judge(file: &[u8]) -> Judged
 pub fn decode_lbmp(file: &[u8], out: &mut [u32]) -> Judged
     ensures { outcome (reads result) out.new ≡ decoding file.now out.old }
 {
-    let j = judge(file);
-    let Judged::Sound(image) = j else {
-        return j;
-    };
-    if (out.len() as u64) < image.width as u64 * image.height as u64 {
-        return Judged::Refused(Refusal::Room);
+    let image = judge(file)?;
+    if (out.len() as u64) < u64::from(image.width) * u64::from(image.height) {
+        return Err(Refusal::Room);
     }
     paint::write_words(file, out);
-    j
+    Ok(image)
 }

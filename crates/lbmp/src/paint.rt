@@ -1,5 +1,5 @@
 // Writing the words of an image: colours first, and then the mask over them.
-ghost use Rattle.std.specs.Prelude.{◌≡◌, ◌+◌, ◌*◌, ◌≤◌, ◌<◌, ◌/◌, ◌%◌, ◌^◌, ◌++◌, length, drop};
+ghost use Rattle.std.specs.Prelude.{◌≡◌, ◌+◌, ◌*◌, ◌≤◌, ◌<◌, ◌/◌, ◌%◌, ◌^◌, ◌++◌, length, drop, Some};
 ghost use Rattle.fields.specs.Fields.{u8_at};
 ghost use Rattle.words.specs.Format.{argb};
 ghost use Rattle.words.specs.Word.{from_color};
@@ -46,27 +46,21 @@ fn grey_row(high: &[u8], low: &[u8], w: usize, y: usize, out: &mut [u32])
     let base = y / 8 * w;
     let o = y * w;
     let s = (y % 8) as u32;
-    let mut x = 0;
-    while x < w {
+    for x in 0..w {
         out[o + x] = grey_word(bit(high, base + x, s), bit(low, base + x, s));
-        x = x + 1;
     }
 }
 
 // Type 2.
 fn greys(p: &[u8], h: Header, out: &mut [u32])
     requires { (length p.now ≡ 2 * plane_size h.width h.height) × (h.width * h.height ≤ length out.old) }
-    ensures { out.new ≡ swept (painted (color_at Greys p.now (plane_size h.width h.height) h.width)) 0 (h.width * h.height) out.old }
+    ensures { out.new ≡ swept (painted (color_at (Some Greys) p.now (plane_size h.width h.height) h.width)) 0 (h.width * h.height) out.old }
 {
-    let n = p.len() / 2;
-    let high = &p[0..n];
-    let low = &p[n..];
+    let (high, low) = p.split_at(p.len() / 2);
     let w = h.width as usize;
     let rows = h.height as usize;
-    let mut y = 0;
-    while y < rows {
+    for y in 0..rows {
         grey_row(high, low, w, y, out);
-        y = y + 1;
     }
 }
 
@@ -75,10 +69,8 @@ fn bytes332(p: &[u8], table: &[u32; 256], n: usize, out: &mut [u32])
     requires { (n ≤ length p.now) × ((n ≤ length out.old) × (table.now ≡ back332)) }
     ensures { out.new ≡ swept (painted (at332 p.now)) 0 n out.old }
 {
-    let mut i = 0;
-    while i < n {
+    for i in 0..n {
         out[i] = words::from_color(3, words::read332(u8_at(p, i), table));
-        i = i + 1;
     }
 }
 
@@ -87,10 +79,8 @@ fn words565(p: &[u8], levels5: &[u8; 32], levels6: &[u8; 64], n: usize, out: &mu
     requires { (2 * n ≤ length p.now) × ((n ≤ length out.old) × ((levels5.now ≡ fives) × (levels6.now ≡ sixes))) }
     ensures { out.new ≡ swept (painted (at565 p.now)) 0 n out.old }
 {
-    let mut i = 0;
-    while i < n {
+    for i in 0..n {
         out[i] = words::from_color(3, words::read565(u16_at(p, 2 * i), levels5, levels6));
-        i = i + 1;
     }
 }
 
@@ -100,19 +90,18 @@ fn paint_colors(p: &[u8], h: Header, out: &mut [u32])
     ensures { out.new ≡ swept (painted (color_at (kind_of h.kind) p.now (plane_size h.width h.height) h.width)) 0 (h.width * h.height) out.old }
 {
     let n = h.width as usize * h.height as usize;
-    let kind = kind_of(h.kind);
-    match kind {
-        Kind::Greys => greys(p, h, out),
-        Kind::Rgb332 => {
+    match kind_of(h.kind) {
+        Some(Kind::Greys) => greys(p, h, out),
+        Some(Kind::Rgb332) => {
             let table = words::colors332();
             bytes332(p, &table, n, out);
         }
-        Kind::Rgb565 => {
+        Some(Kind::Rgb565) => {
             let fives = words::levels5();
             let sixes = words::levels6();
             words565(p, &fives, &sixes, n, out);
         }
-        Kind::Unknown => {}
+        None => unreachable!(),
     }
 }
 
@@ -134,10 +123,8 @@ fn veil_row(m: &[u8], w: usize, y: usize, out: &mut [u32])
     let base = y / 8 * w;
     let o = y * w;
     let s = (y % 8) as u32;
-    let mut x = 0;
-    while x < w {
+    for x in 0..w {
         out[o + x] = veiled_word(bit(m, base + x, s), out[o + x]);
-        x = x + 1;
     }
 }
 
@@ -148,10 +135,8 @@ fn veil_rows(m: &[u8], h: Header, out: &mut [u32])
 {
     let w = h.width as usize;
     let rows = h.height as usize;
-    let mut y = 0;
-    while y < rows {
+    for y in 0..rows {
         veil_row(m, w, y, out);
-        y = y + 1;
     }
 }
 

@@ -1,31 +1,19 @@
 // Counting the bits of a mask.
-ghost use Rattle.std.specs.Prelude.{◌≡◌, ◌+◌, ◌-◌, ◌*◌, ◌≤◌, ◌^◌, length, get_or};
+ghost use Rattle.std.specs.Prelude.{◌≡◌, ◌-◌, ◌*◌, ◌≤◌, ◌^◌, length, sum_by};
 ghost use Rattle.std.specs.Int.Bits.{bit_and};
 ghost use Rattle.std.specs.Int.Count.{ones};
 ghost use Rattle.lbmp.specs.File.{mask_size};
-ghost use Rattle.lbmp.specs.Plane.{plane_size, total};
+ghost use Rattle.lbmp.specs.Plane.{plane_size};
 ghost use Rattle.lbmp.specs.Image.{clear_in};
 
 use crate::header::Header;
 
-fn ones_of(byte: u8) -> u64
-    ensures { (result ≡ ones byte) × (result ≤ 8) }
+// The ones of the bytes, of each the bits kept.
+fn count_ones(bytes: &[u8], keep: u8) -> u64
+    requires { length bytes.now ≤ 4294967296 }
+    ensures { result ≡ sum_by (λ b. ones (bit_and b keep)) bytes.now }
 {
-    u8::count_ones(byte) as u64
-}
-
-// The ones of the bytes from one to another, of each the bits kept, on top of those counted before.
-fn count_ones(m: &[u8], from: usize, to: usize, keep: u8, before: u64) -> u64
-    requires { («from» ≤ to) × ((to ≤ length m.now) × ((to ≤ 4294967296) × (before ≤ 8 * «from»))) }
-    ensures { (result ≡ before + total (λ i. ones (bit_and (get_or m.now («from» + i) 0) keep)) (to - «from»)) × (result ≤ 8 * to) }
-{
-    let mut n = before;
-    let mut i = from;
-    while i < to {
-        n = n + ones_of(m[i] & keep);
-        i = i + 1;
-    }
-    n
+    bytes.iter().map(|byte| u64::from((byte & keep).count_ones())).sum()
 }
 
 // The bits that so many rows have in a byte.
@@ -33,7 +21,7 @@ fn kept_bits(rows: u32) -> u8
     requires { rows ≤ 7 }
     ensures { result ≡ 2 ^ rows - 1 }
 {
-    ((1u32 << rows) - 1) as u8
+    (1 << rows) - 1
 }
 
 // The pixels whose bit is set, without bits of rows beyond the height.
@@ -42,8 +30,8 @@ fn clear_in(m: &[u8], width: u32, height: u32) -> u64
     ensures { result ≡ clear_in m.now width (width * height) }
 {
     let full = height as usize / 8 * width as usize;
-    let n = count_ones(m, 0, full, 255, 0);
-    count_ones(m, full, m.len(), kept_bits(height % 8), n)
+    let (whole, last) = m.split_at(full);
+    count_ones(whole, 255) + count_ones(last, kept_bits(height % 8))
 }
 
 // The transparent pixels of an image with this mask.

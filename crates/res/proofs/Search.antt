@@ -2,6 +2,7 @@
 use mathlib.Core.Path.{◌≡◌, refl, sym, ap, subst, ◌∙◌}
 use mathlib.Core.Bool.{Bool, true, false, cond}
 use mathlib.Core.List.{List}
+use Rattle.std.specs.Prelude.{Result, Ok, Err}
 use Prim.Native.Nat.{ℕ, zero, suc, ◌+◌, ◌<◌, ◌≤◌}
 use native.Mathlib.Omega.{arith}
 use native.Mathlib.Nat.{lt_of_not-le}
@@ -12,9 +13,8 @@ use lib.ListN.{length}
 use Rattle.res.specs.declared.Refusal.{Refusal}
 use Rattle.res.specs.declared.Refusal.TheVariants.{Res}
 use Rattle.res.specs.declared.Icon.{Icon}
-use Rattle.res.specs.declared.Found.TheVariants.{Refused, Here}
 use Rattle.res.specs.declared.records.Step.{Step}
-use Rattle.res.specs.declared.records.Step.TheVariants as step
+use Rattle.res.specs.declared.records.Step.TheVariants.{Here, Next}
 use Rattle.res.specs.Record.{is_res, first_record, step_at}
 use Rattle.res.specs.Search.{follow, search, first_icon}
 use Rattle.res.proofs.records.Steps.{Moving, Tells, tells, at-end}
@@ -22,14 +22,14 @@ use Rattle.res.proofs.records.Steps.{Moving, Tells, tells, at-end}
 -- One record more changes nothing, where more than the bytes that are left are followed.
 search-more : (n : ℕ) (f : List ℕ) (at : ℕ) → length f < n + at → search n f at ≡ search (suc n) f at
 unfolding search follow Tells
-search-more zero f at l = ap (λ (t : Step). follow t (search 0 f)) (at-end f at (omega arith))
+search-more zero f at l = ap (λ (t : Result Step Refusal). follow t (search 0 f)) (at-end f at (omega arith))
 search-more (suc n) f at l = by (step_at f at) (tells f at) (search-more n f)
   where
-    by : (t : Step) → Tells f at t → ((k : ℕ) → length f < n + k → search n f k ≡ search (suc n) f k)
+    by : (t : Result Step Refusal) → Tells f at t → ((k : ℕ) → length f < n + k → search n f k ≡ search (suc n) f k)
         → follow t (search n f) ≡ follow t (search (suc n) f)
-    by (step.Here i) m go = refl
-    by (step.Next k) m go = go k (omega (arith, m.further))
-    by (step.Fault r) m go = refl
+    by (Ok (Here i)) m go = refl
+    by (Ok (Next k)) m go = go k (omega (arith, m.further))
+    by (Err r) m go = refl
 
 -- However many records are followed, if they are more than the file has bytes, the answer is the same.
 pub no_further : (n : ℕ) (f : List ℕ) (at : ℕ) → length f < n → search n f at ≡ search (suc (length f)) f at
@@ -42,7 +42,7 @@ no_further (suc n) f at l = by (dec_le n (length f)) (no_further n f at)
 
 -- ---- the loop
 
-pub next-is : (f : List ℕ) (at k : ℕ) → step_at f at ≡ step.Next k → Moving f at k
+pub next-is : (f : List ℕ) (at k : ℕ) → step_at f at ≡ Ok (Next k) → Moving f at k
 unfolding Tells
 next-is f at k e = subst (Tells f at) e (tells f at)
 
@@ -50,7 +50,7 @@ next-is f at k e = subst (Tells f at) e (tells f at)
 pub record Left (f : List ℕ) (at : ℕ) : Type 0 where
   pub same : first_icon f ≡ search (suc (length f)) f at
 
-pub not_res : (f : List ℕ) → is_res f ≡ false → Refused Res ≡ first_icon f
+pub not_res : (f : List ℕ) → is_res f ≡ false → Err Res ≡ first_icon f
 unfolding first_icon
 not_res f e = rw e refl
 
@@ -68,14 +68,14 @@ module _ (f : List ℕ) (at : ℕ) where
   begun s e = record { same = rw (s, e) refl }
 
   module _ (l : Left f at) where
-    pub leads : (k : ℕ) → step_at f at ≡ step.Next k → Left f k
+    pub leads : (k : ℕ) → step_at f at ≡ Ok (Next k) → Left f k
     unfolding search follow
-    leads k e = record { same = l.same ∙ ap (λ (t : Step). follow t (search (length f) f)) e ∙ search-more (length f) f k (omega (arith, (next-is f at k e).further)) }
+    leads k e = record { same = l.same ∙ ap (λ (t : Result Step Refusal). follow t (search (length f) f)) e ∙ search-more (length f) f k (omega (arith, (next-is f at k e).further)) }
 
-    pub ends-here : (i : Icon) → step_at f at ≡ step.Here i → Here i ≡ first_icon f
+    pub ends-here : (i : Icon) → step_at f at ≡ Ok (Here i) → Ok i ≡ first_icon f
     unfolding search follow
-    ends-here i e = sym (l.same ∙ ap (λ (t : Step). follow t (search (length f) f)) e)
+    ends-here i e = sym (l.same ∙ ap (λ (t : Result Step Refusal). follow t (search (length f) f)) e)
 
-    pub ends-refused : (r : Refusal) → step_at f at ≡ step.Fault r → Refused r ≡ first_icon f
+    pub ends-refused : (r : Refusal) → step_at f at ≡ Err r → Err r ≡ first_icon f
     unfolding search follow
-    ends-refused r e = sym (l.same ∙ ap (λ (t : Step). follow t (search (length f) f)) e)
+    ends-refused r e = sym (l.same ∙ ap (λ (t : Result Step Refusal). follow t (search (length f) f)) e)

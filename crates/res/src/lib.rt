@@ -1,5 +1,5 @@
 // RES, the phone's file of icons: its first static icon.
-#![tactic(auto)]
+#![tactic(auto, unfolding(crate::specs::Search::number))]
 
 ghost use Rattle.std.specs.Prelude.{◌≡◌};
 ghost use Rattle.res.specs.Search.{number, first_icon, icon_pixels};
@@ -9,7 +9,7 @@ mod records;
 use records::{Step, is_res, step_at};
 
 // Why a file is refused.
-#[derive(Clone, Copy)]
+#[derive(Clone, Copy, Debug, PartialEq, Eq)]
 pub enum Refusal {
     Res,
     Depth,
@@ -18,18 +18,11 @@ pub enum Refusal {
 }
 
 // Where an icon's pixels start in the file, a byte each, and its sides.
-#[derive(Clone, Copy)]
+#[derive(Clone, Copy, Debug, PartialEq, Eq)]
 pub struct Icon {
     pub start: usize,
     pub width: u32,
     pub height: u32,
-}
-
-// What the search answers.
-#[derive(Clone, Copy)]
-pub enum Found {
-    Refused(Refusal),
-    Here(Icon),
 }
 
 impl Refusal {
@@ -47,25 +40,17 @@ impl Refusal {
 }
 
 // The first static icon of a file.
-pub fn decode_res(file: &[u8]) -> Found
+pub fn decode_res(file: &[u8]) -> Result<Icon, Refusal>
     ensures { result ≡ first_icon file.now }
 {
     if !is_res(file) {
-        return Found::Refused(Refusal::Res);
+        return Err(Refusal::Res);
     }
     let mut at = fields::u16_at(file, 6) as usize;
     loop {
-        let s = step_at(file, at);
-        match s {
-            Step::Here(i) => {
-                return Found::Here(i);
-            }
-            Step::Next(k) => {
-                at = k;
-            }
-            Step::Fault(r) => {
-                return Found::Refused(r);
-            }
+        match step_at(file, at)? {
+            Step::Here(icon) => return Ok(icon),
+            Step::Next(next) => at = next,
         }
     }
 }
@@ -74,11 +59,9 @@ pub fn decode_res(file: &[u8]) -> Found
 pub fn icon_pixels(file: &[u8]) -> &[u8]
     ensures { result.now ≡ icon_pixels file.now }
 {
-    let f = decode_res(file);
-    let Found::Here(i) = f else {
-        return &file[0..0];
+    let Ok(i) = decode_res(file) else {
+        return &file[..0];
     };
-    let start = i.start;
-    let end = start + i.width as usize * i.height as usize;
-    &file[start..end]
+    let end = i.start + i.width as usize * i.height as usize;
+    &file[i.start..end]
 }

@@ -5,12 +5,11 @@ ghost use Rattle.res.specs.Record.{is_res, area, static, moving, step_at};
 use crate::{Icon, Refusal};
 use fields::u8_at;
 
-// The icon, where the next record begins, or why the search is over.
+// The icon, or where the next record begins.
 #[derive(Clone, Copy)]
 pub(crate) enum Step {
     Here(Icon),
     Next(usize),
-    Fault(Refusal),
 }
 
 // Whether a file begins as RES files do, and has the first record's offset.
@@ -32,29 +31,29 @@ fn area_at(file: &[u8], at: usize) -> usize
 }
 
 // A record of type 2.
-fn static_at(file: &[u8], at: usize) -> Step
+fn static_at(file: &[u8], at: usize) -> Result<Step, Refusal>
     requires { at + 8 ≤ length file.now }
     ensures { result ≡ static file.now at }
 {
     if file.len() - (at + 8) < area_at(file, at) {
-        return Step::Fault(Refusal::Res);
+        return Err(Refusal::Res);
     }
-    Step::Here(Icon {
+    Ok(Step::Here(Icon {
         start: at + 8,
         width: u8_at(file, at + 1),
         height: u8_at(file, at + 2),
-    })
+    }))
 }
 
 // A record of type 3.
-fn moving_at(file: &[u8], at: usize) -> Step
+fn moving_at(file: &[u8], at: usize) -> Result<Step, Refusal>
     requires { at + 8 ≤ length file.now }
     ensures { result ≡ moving file.now at }
 {
     if file.len() < at + 9 {
-        return Step::Fault(Refusal::Res);
+        return Err(Refusal::Res);
     }
-    Step::Next(at + 9 + u8_at(file, at + 8) as usize * area_at(file, at))
+    Ok(Step::Next(at + 9 + u8_at(file, at + 8) as usize * area_at(file, at)))
 }
 
 // Whether the header of a record at a place is cut short.
@@ -68,20 +67,20 @@ fn is_cut(file: &[u8], at: usize) -> bool
 }
 
 // The record at a place.
-pub(crate) fn step_at(file: &[u8], at: usize) -> Step
+pub(crate) fn step_at(file: &[u8], at: usize) -> Result<Step, Refusal>
     ensures { result ≡ step_at file.now at }
 {
     if is_cut(file, at) {
-        return Step::Fault(Refusal::NoIcon);
+        return Err(Refusal::NoIcon);
     }
     let kind = u8_at(file, at);
     let depth = u8_at(file, at + 3);
     if depth != 8 {
-        return Step::Fault(Refusal::Depth);
+        return Err(Refusal::Depth);
     }
     match kind {
         2 => static_at(file, at),
         3 => moving_at(file, at),
-        _ => Step::Fault(Refusal::ResType),
+        _ => Err(Refusal::ResType),
     }
 }

@@ -1,6 +1,7 @@
 -- The two walks leave the words of the image, and after them what was there.
 use mathlib.Core.Path.{◌≡◌, refl, sym, ap, ap₂, ◌∙◌}
 use mathlib.Core.List.{List, [], ◌++◌}
+use Rattle.std.specs.Prelude.{Option, Some, None}
 use Prim.Native.Nat.{ℕ, zero, suc, ◌-◌, ◌*◌, ◌/◌, ◌%◌, ◌≤◌}
 use native.Mathlib.Omega.{arith}
 use lib.ListN.{length, get_or, take, drop}
@@ -15,7 +16,7 @@ use Rattle.words.proofs.Laws.{Channels}
 use Rattle.words.proofs.Reading.{read_channels}
 use Rattle.lbmp.specs.declared.header.Header.{Header}
 use Rattle.lbmp.specs.declared.header.Kind.{Kind}
-use Rattle.lbmp.specs.declared.header.Kind.TheVariants.{Greys, Rgb332, Rgb565, Unknown}
+use Rattle.lbmp.specs.declared.header.Kind.TheVariants.{Greys, Rgb332, Rgb565}
 use Rattle.lbmp.specs.Plane.{plane_at, plane_size}
 use Rattle.lbmp.specs.File.{header_of, kind_of, expected_size, image_size, pixel_size, pixel_bytes, mask_bytes}
 use Rattle.lbmp.specs.Image.{grey, grey_color, grey_at, at332, at565, color_at, masked, word_under, word_at, pixels, image}
@@ -24,55 +25,38 @@ use Rattle.lbmp.proofs.planes.Bits.{no_bit}
 use Rattle.lbmp.proofs.planes.Sizes.{mask_none}
 use Rattle.lbmp.proofs.paint.Walks.{walked, at, run_length, swept-length}
 
--- ---- the two planes of greys
-
-module _ (p : List ℕ) (n : ℕ) (e : length p ≡ 2 * n) where
-  pub high_is : take (length p / 2 - 0) (drop 0 p) ≡ take n p
-  high_is =
-      let h : length p / 2 - 0 ≡ n = omega arith in
-      ap (λ (k : ℕ). take k p) h
-
-  pub low-is : take (length p - length p / 2) (drop (length p / 2) p) ≡ drop n p
-  low-is =
-      let h : length p / 2 ≡ n = omega arith in
-      take_all (length p - length p / 2) (drop (length p / 2) p) (omega (arith, length-drop (length p / 2) p)) ∙ ap (λ (k : ℕ). drop k p) h
-
-  pub high-length : length (take (length p / 2 - 0) (drop 0 p)) ≡ n
-  high-length = ap length high_is ∙ length-take-le n p (omega arith)
-
-  pub low-length : length (take (length p - length p / 2) (drop (length p / 2) p)) ≡ n
-  low-length = ap length low-is ∙ omega (arith, length-drop n p)
+-- ---- the colours by the type
 
 pub greys_are : (p high low l : List ℕ) (n w k : ℕ) → high ≡ take n p → low ≡ drop n p
-    → swept (painted (grey_at high low w)) 0 k l ≡ swept (painted (color_at Greys p n w)) 0 k l
+    → swept (painted (grey_at high low w)) 0 k l ≡ swept (painted (color_at (Some Greys) p n w)) 0 k l
 unfolding color_at
 greys_are p high low l n w k a b = ap₂ (λ (x y : List ℕ). swept (painted (grey_at x y w)) 0 k l) a b
 
-pub are_332 : (p l : List ℕ) (n w k : ℕ) → swept (painted (at332 p)) 0 k l ≡ swept (painted (color_at Rgb332 p n w)) 0 k l
+pub are_332 : (p l : List ℕ) (n w k : ℕ) → swept (painted (at332 p)) 0 k l ≡ swept (painted (color_at (Some Rgb332) p n w)) 0 k l
 unfolding color_at
 are_332 p l n w k = refl
 
-pub are_565 : (p l : List ℕ) (n w k : ℕ) → swept (painted (at565 p)) 0 k l ≡ swept (painted (color_at Rgb565 p n w)) 0 k l
+pub are_565 : (p l : List ℕ) (n w k : ℕ) → swept (painted (at565 p)) 0 k l ≡ swept (painted (color_at (Some Rgb565) p n w)) 0 k l
 unfolding color_at
 are_565 p l n w k = refl
 
 -- The bytes of the pixels, by the type.
-pub size_is : (h : Header) (k : Kind) → Fair h → kind_of h.kind ≡ k → pixel_size h ≡ image_size k (expected_size k h.width h.height)
+pub size_is : (h : Header) (k : Option Kind) → Fair h → kind_of h.kind ≡ k → pixel_size h ≡ image_size k (expected_size k h.width h.height)
 size_is h k f e =
-    ap₂ image_size e (f.sized ∙ ap (λ (j : Kind). expected_size j h.width h.height) e)
+    ap₂ image_size e (f.sized ∙ ap (λ (j : Option Kind). expected_size j h.width h.height) e)
 
-pub kind_are : (k j : Kind) (p l : List ℕ) (n w m : ℕ) → k ≡ j
+pub kind_are : (k j : Option Kind) (p l : List ℕ) (n w m : ℕ) → k ≡ j
     → swept (painted (color_at k p n w)) 0 m l ≡ swept (painted (color_at j p n w)) 0 m l
-kind_are k j p l n w m e = ap (λ (i : Kind). swept (painted (color_at i p n w)) 0 m l) e
+kind_are k j p l n w m e = ap (λ (i : Option Kind). swept (painted (color_at i p n w)) 0 m l) e
 
 -- ---- a word under a mask bit
 
-color_channels : (k : Kind) (p : List ℕ) (n w i : ℕ) → Channels (color_at k p n w i)
+color_channels : (k : Option Kind) (p : List ℕ) (n w i : ℕ) → Channels (color_at k p n w i)
 unfolding color_at grey_color grey
-color_channels Greys p n w i = record { a = omega arith; r = omega arith; g = omega arith; b = omega arith }
-color_channels Rgb332 p n w i = read_channels rgb332 (get_or p i 0)
-color_channels Rgb565 p n w i = read_channels rgb565 (u16_at p (2 * i))
-color_channels Unknown p n w i = record { a = omega arith; r = omega arith; g = omega arith; b = omega arith }
+color_channels (Some Greys) p n w i = record { a = omega arith; r = omega arith; g = omega arith; b = omega arith }
+color_channels (Some Rgb332) p n w i = read_channels rgb332 (get_or p i 0)
+color_channels (Some Rgb565) p n w i = read_channels rgb565 (u16_at p (2 * i))
+color_channels None p n w i = record { a = omega arith; r = omega arith; g = omega arith; b = omega arith }
 
 under : (b : ℕ) (c : Color) → Channels c → veiled b (from_color argb c) ≡ word_under b c
 unfolding veiled word_under masked from_color

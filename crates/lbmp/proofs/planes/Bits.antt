@@ -4,16 +4,18 @@ use mathlib.Core.Logic.{⊎_elim}
 use mathlib.Core.List.{List, [], ◌∷◌}
 use Prim.Native.Nat.{ℕ, zero, suc, ◌+◌, ◌-◌, ◌*◌, ◌/◌, ◌%◌, ◌^◌, ◌<◌, ◌≤◌}
 use native.Mathlib.Omega.{arith}
-use native.Mathlib.Nat.{zero-div, sub-zero, zero-add, add-zero, mul_comm, mod-lt, eq-zero-or-pos, add-mul, one-mul, mod-one}
+use native.Mathlib.Nat.{zero-div, mul_comm, mod-lt, eq-zero-or-pos, add-mul, one-mul, mod-one}
 use native.Mathlib.Numerals.{one-add}
 use lib.Arith.{digits_div, digits_mod}
 use lib.Bits.{bit_and, and_mask}
 use lib.Count.{ones, ones_in, ones_cat}
-use lib.ListN.{length, get_or}
+use lib.ListN.{length, get_or, take, drop}
 use lib.Pow.{pow_pos, mod-pow-add}
+use Rattle.std.specs.Prelude.{sum_by}
 use Rattle.lbmp.specs.Plane.{plane_size, plane_bit, plane_at, total}
 use Rattle.lbmp.specs.Image.{clear_in}
-use Rattle.lbmp.proofs.planes.Totals.{total_ext, total-none, total-add, total_swap, total-rows}
+use Rattle.lbmp.proofs.planes.Totals.{total_ext, total-none, total-add, total_swap, total-rows, sum_taken, sum_dropped, total-le}
+use Rattle.lbmp.proofs.planes.Sizes.{full_le}
 
 -- ---- where the bit of a pixel stands
 
@@ -74,9 +76,10 @@ module _ (m : List ℕ) (w : ℕ) where
       ∙ total_swap (λ x s. plane_bit m w x (y * 8 + s)) w k
 
   -- The bytes whose eight rows are all of the image.
-  full : (n : ℕ) → total (λ i. ones (bit_and (get_or m (0 + i) 0) 255)) (n * w) ≡ total (row_of m w) (n * 8)
-  full n =
-      total_ext _ (λ i. ones (get_or m i 0 % 2 ^ 8)) (n * w) (λ i _. ap (λ (j : ℕ). ones (bit_and (get_or m j 0) 255)) (zero-add i) ∙ ap ones (and_mask (get_or m i 0) 8))
+  full : (n : ℕ) → n * w ≤ length m → sum_by (λ b. ones (bit_and b 255)) (take (n * w) m) ≡ total (row_of m w) (n * 8)
+  full n l =
+      sum_taken (λ b. ones (bit_and b 255)) (n * w) m l
+      ∙ total_ext _ (λ i. ones (get_or m i 0 % 2 ^ 8)) (n * w) (λ i _. ap ones (and_mask (get_or m i 0) 8))
       ∙ total-rows (λ i. ones (get_or m i 0 % 2 ^ 8)) n w
       ∙ total_ext _ _ n (λ y _. band y 8 (omega arith))
       ∙ sym (total-rows (row_of m w) n 8)
@@ -90,36 +93,41 @@ module _ (m : List ℕ) (w : ℕ) where
   over : (h : ℕ) → h / 8 * 8 + h % 8 ≡ h
   over h = omega arith
 
-  pub counts : (h a b keep : ℕ) → plane_size w h ≡ length m → keep ≡ 2 ^ (h % 8) - 1
-      → a ≡ 0 + total (λ i. ones (bit_and (get_or m (0 + i) 0) 255)) (h / 8 * w - 0)
-      → b ≡ a + total (λ i. ones (bit_and (get_or m (h / 8 * w + i) 0) keep)) (length m - h / 8 * w)
-      → b ≡ clear_in m w (w * h)
+  -- Both parts of a plane's bytes, of the second only the bits of rows that the image has.
+  pub counts : (h : ℕ) → plane_size w h ≡ length m
+      → sum_by (λ b. ones (bit_and b 255)) (take (h / 8 * w) m) + sum_by (λ b. ones (bit_and b (2 ^ (h % 8) - 1))) (drop (h / 8 * w) m)
+      ≡ clear_in m w (w * h)
   unfolding plane_size total
-  counts h a b keep p k ea eb = ⊎_elim none some (eq-zero-or-pos (h % 8))
+  counts h p = ap₂ (λ (x y : ℕ). x + y) (full (h / 8) (omega (arith, p, full_le w h))) rest ∙ sym all
     where
       all : clear_in m w (w * h) ≡ total (row_of m w) (h / 8 * 8) + total (λ s. row_of m w (h / 8 * 8 + s)) (h % 8)
       all = rows h ∙ ap (total (row_of m w)) (sym (over h)) ∙ total-add (row_of m w) (h / 8 * 8) (h % 8)
 
-      first : a ≡ total (row_of m w) (h / 8 * 8)
-      first = ea ∙ zero-add _ ∙ ap (total (λ i. ones (bit_and (get_or m (0 + i) 0) 255))) (sub-zero (h / 8 * w)) ∙ full (h / 8)
+      kept : ℕ → ℕ
+      kept b = ones (bit_and b (2 ^ (h % 8) - 1))
 
       lasts : ℕ → ℕ
-      lasts n = total (λ i. ones (bit_and (get_or m (h / 8 * w + i) 0) keep)) n
+      lasts n = total (λ i. kept (get_or m (h / 8 * w + i) 0)) n
 
-      none : h % 8 ≡ 0 → b ≡ clear_in m w (w * h)
+      none : h % 8 ≡ 0 → lasts (length m - h / 8 * w) ≡ total (λ s. row_of m w (h / 8 * 8 + s)) (h % 8)
       none z =
           let q : (h + 7) / 8 ≡ h / 8 = omega arith in
           let s : length m - h / 8 * w ≡ 0 = omega (arith, p, ap (λ (j : ℕ). j * w) q) in
-          eb ∙ ap (λ (n : ℕ). a + lasts n) s ∙ add-zero a ∙ first ∙ sym (all ∙ ap (λ (n : ℕ). total (row_of m w) (h / 8 * 8) + total (λ s. row_of m w (h / 8 * 8 + s)) n) z ∙ add-zero _)
+          ap lasts s ∙ sym (ap (total (λ s. row_of m w (h / 8 * 8 + s))) z)
 
-      some : 0 < h % 8 → b ≡ clear_in m w (w * h)
+      some : 0 < h % 8 → lasts (length m - h / 8 * w) ≡ total (λ s. row_of m w (h / 8 * 8 + s)) (h % 8)
       some z =
           let q : (h + 7) / 8 ≡ h / 8 + 1 = omega arith in
           let s : length m - h / 8 * w ≡ w = omega (arith, p, ap (λ (j : ℕ). j * w) q, add-mul (h / 8) 1 w, one-mul w) in
-          eb ∙ ap (λ (n : ℕ). a + lasts n) s
-          ∙ ap (λ (j : ℕ). a + total (λ i. ones (bit_and (get_or m (h / 8 * w + i) 0) j)) w) k
-          ∙ ap₂ (λ (x y : ℕ). x + y) first (last (h / 8) (h % 8) (omega arith))
-          ∙ sym all
+          ap lasts s ∙ last (h / 8) (h % 8) (omega arith)
+
+      rest : sum_by kept (drop (h / 8 * w) m) ≡ total (λ s. row_of m w (h / 8 * 8 + s)) (h % 8)
+      rest = sum_dropped kept (h / 8 * w) m ∙ ⊎_elim none some (eq-zero-or-pos (h % 8))
+
+-- No more pixels are clear than there are.
+pub clear_le : (m : List ℕ) (w n : ℕ) → clear_in m w n ≤ n
+unfolding clear_in
+clear_le m w n = total-le (plane_at m w) n (λ i. omega (arith, bit_lt m w (i % w) (i / w)))
 
 -- A mask of no bytes has no pixel clear.
 pub none-clear : (m : List ℕ) (w n : ℕ) → length m ≡ 0 → 0 ≡ clear_in m w n

@@ -1,5 +1,6 @@
 -- How large planes and parts are.
 use mathlib.Core.Path.{◌≡◌, refl}
+use Rattle.std.specs.Prelude.{Option, Some, None}
 use Prim.Native.Nat.{ℕ, ◌+◌, ◌*◌, ◌/◌, ◌%◌, ◌^◌, ◌<◌, ◌≤◌}
 use native.Mathlib.Omega.{arith}
 use native.Mathlib.Nat.{mul-le-mul, mul-le-mul_right, mul_comm, add-mul, one-mul}
@@ -7,7 +8,7 @@ use borrow.Author.Tests.{eq-eqb, ne_eqb}
 use lib.Pow.{pow_pos, pow_mono}
 use Rattle.lbmp.specs.declared.header.Header.{Header}
 use Rattle.lbmp.specs.declared.header.Kind.{Kind}
-use Rattle.lbmp.specs.declared.header.Kind.TheVariants.{Greys, Rgb332, Rgb565, Unknown}
+use Rattle.lbmp.specs.declared.header.Kind.TheVariants.{Greys, Rgb332, Rgb565}
 use Rattle.lbmp.specs.Plane.{plane_size}
 use Rattle.lbmp.specs.File.{expected_size, mask_size}
 
@@ -45,12 +46,12 @@ plane_row w h y l =
 pub plane_inside : (w h x y : ℕ) → x < w → y < h → y / 8 * w + x < plane_size w h
 plane_inside w h x y lx ly = omega (arith, plane_row w h y ly)
 
-pub expected_le : (k : Kind) (w h : ℕ) → expected_size k w h ≤ 2 * (w * h)
+pub expected_le : (k : Option Kind) (w h : ℕ) → expected_size k w h ≤ 2 * (w * h)
 unfolding expected_size
-expected_le Greys w h = omega (arith, plane_le w h)
-expected_le Rgb332 w h = omega arith
-expected_le Rgb565 w h = omega arith
-expected_le Unknown w h = omega arith
+expected_le (Some Greys) w h = omega (arith, plane_le w h)
+expected_le (Some Rgb332) w h = omega arith
+expected_le (Some Rgb565) w h = omega arith
+expected_le None w h = omega arith
 
 pub mask_plane : (h : Header) → h.mask ≡ 1 → mask_size h ≡ plane_size h.width h.height
 unfolding mask_size

@@ -1,8 +1,14 @@
 -- Sums: term by term, in two parts, row by row, and the other way round.
 use mathlib.Core.Path.{◌≡◌, refl, sym, ap, ap₂, ◌∙◌}
+use mathlib.Core.List.{List, [], ◌∷◌}
 use Prim.Native.Nat.{ℕ, zero, suc, ◌+◌, ◌-◌, ◌*◌, ◌<◌, ◌≤◌}
 use native.Mathlib.Omega.{arith}
-use native.Mathlib.Nat.{sub_self, zero-add, add-zero, add-suc, zero-mul, suc-mul}
+use native.Mathlib.Nat.{sub_self, zero-add, add-zero, add_comm, add-suc, zero-mul, suc-mul}
+use Rattle.std.specs.Prelude.{sum_by}
+use Rattle.std.proofs.lemmas.List.{get_or-take}
+use Rattle.std.proofs.lemmas.List.Sums.{sum_by-cons}
+use lib.ListN.{length, get_or, take, drop, length-drop}
+use lib.Seq.{length-take-le, get_or-drop}
 use Rattle.lbmp.specs.Plane.{total}
 
 pub total_ext : (f g : ℕ → ℕ) (n : ℕ) → ((i : ℕ) → i < n → f i ≡ g i) → total f n ≡ total g n
@@ -37,24 +43,30 @@ total-rows f zero w = rw (zero-mul w) refl
 total-rows f (suc n) w =
     rw (suc-mul n w) (total-add f (n * w) w ∙ ap (λ (a : ℕ). a + total (λ x. f (n * w + x)) w) (total-rows f n w))
 
-one-term : (f : ℕ → ℕ) (k : ℕ) → total (λ i. f (k + i)) 1 ≡ f k
+-- ---- the sums of a list
+
+one_more : (f : ℕ → ℕ) (n : ℕ) → total f (suc n) ≡ f 0 + total (λ i. f (suc i)) n
 unfolding total
-one-term f k = zero-add (f (k + 0)) ∙ ap f (add-zero k)
+one_more f zero = add_comm 0 (f 0)
+one_more f (suc n) = omega (arith, one_more f n)
 
--- One more term.
-pub total-more : (f : ℕ → ℕ) (n : ℕ) → total f (n + 1) ≡ total f n + f n
-total-more f n = total-add f n 1 ∙ ap (λ (a : ℕ). total f n + a) (one-term f n)
-
--- ---- counting on from a number
-
-pub count_none : (f : ℕ → ℕ) (a n : ℕ) → a ≡ a + total f (n - n)
+sum_total : (f : ℕ → ℕ) (l : List ℕ) → sum_by f l ≡ total (λ i. f (get_or l i 0)) (length l)
 unfolding total
-count_none f a n = rw (sub_self n) (sym (add-zero a))
+sum_total f [] = refl
+sum_total f (x ∷ l) = omega (arith, sum_by-cons f x l, sum_total f l, one_more (λ i. f (get_or (x ∷ l) i 0)) (length l))
 
-pub count-more : (f : ℕ → ℕ) (a o i n r : ℕ) → o ≤ i → n ≡ a + total (λ k. f (o + k)) (i - o) → r ≡ f i
-    → n + r ≡ a + total (λ k. f (o + k)) (i + 1 - o)
-count-more f a o i n r l e g =
-    let s : i + 1 - o ≡ i - o + 1 = omega arith in
-    let t : o + (i - o) ≡ i = omega arith in
-    let m : total (λ k. f (o + k)) (i - o + 1) ≡ total (λ k. f (o + k)) (i - o) + f (o + (i - o)) = total-more (λ k. f (o + k)) (i - o) in
-    omega (arith, ap (total (λ k. f (o + k))) s, m, ap f t)
+pub sum_taken : (f : ℕ → ℕ) (n : ℕ) (l : List ℕ) → n ≤ length l → sum_by f (take n l) ≡ total (λ i. f (get_or l i 0)) n
+sum_taken f n l h =
+    sum_total f (take n l) ∙ ap (total (λ i. f (get_or (take n l) i 0))) (length-take-le n l h)
+    ∙ total_ext _ _ n (λ i k. ap f (get_or-take n l i 0 k))
+
+pub sum_dropped : (f : ℕ → ℕ) (n : ℕ) (l : List ℕ) → sum_by f (drop n l) ≡ total (λ i. f (get_or l (n + i) 0)) (length l - n)
+sum_dropped f n l =
+    sum_total f (drop n l) ∙ ap (total (λ i. f (get_or (drop n l) i 0))) (length-drop n l)
+    ∙ total_ext _ _ (length l - n) (λ i _. ap f (get_or-drop n l i 0))
+
+-- No more than there are terms, where none is above one.
+pub total-le : (f : ℕ → ℕ) (n : ℕ) → ((i : ℕ) → f i ≤ 1) → total f n ≤ n
+unfolding total
+total-le f zero e = omega arith
+total-le f (suc n) e = omega (arith, total-le f n e, e n)

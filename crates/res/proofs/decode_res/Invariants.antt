@@ -4,8 +4,8 @@ use lib.ListN.{length}
 use Rattle.res.proofs.Search.{Left}
 use Rattle.res.proofs.decode_res.Given as goal
 
-abbrev pub invariant-loop-i : goal.invariant-loop-i
-invariant-loop-i l = Left l.file l.at
+abbrev pub invariant-loop-icon : goal.invariant-loop-icon
+invariant-loop-icon l = Left l.file l.at
 
-abbrev pub decreases-loop-i : goal.decreases-loop-i
-decreases-loop-i l = length l.file - l.at
+abbrev pub decreases-loop-icon : goal.decreases-loop-icon
+decreases-loop-icon l = length l.file - l.at

@@ -2,7 +2,6 @@
 use mathlib.Core.Path.{refl, ap, ◌∙◌}
 use Prim.Native.Nat.{ℕ}
 use native.Mathlib.Omega.{arith}
-use lib.ListN.{length-set}
 use Rattle.lbmp.specs.Image.{at332}
 use Rattle.lbmp.specs.Walk.{swept, painted}
 use Rattle.lbmp.proofs.paint.Walks.{flat-turn}
@@ -11,26 +10,16 @@ use Rattle.lbmp.proofs.paint.bytes332.Goals as goal
 
 pub loop-i-init : goal.loop-i-init
 unfolding swept
-loop-i-init c = (refl, refl, omega arith)
+loop-i-init c = refl
 
 pub loop-i-preserved : goal.loop-i-preserved
 loop-i-preserved c =
     let a = c.args in
-    let p = c.requires in
     let l = c.loop-i in
-    let u8-at = c.u8_at in
-    let read332 = c.read332 in (
-      flat-turn (painted (at332 a.p.now)) l.i c.from_color.result a.out.now l.invariant.0
-          (is_332 a.p.now a.table.now l.i u8-at.result c.from_color.result _ read332.result p.1.1 u8-at.ensures.0
-          read332.ensures c.from_color.ensures),
-      simp length-set l.invariant.1,
-      omega arith,
-    )
-
-pub shape_of-out : goal.shape_of-out
-shape_of-out c = c.loop-i.invariant.1
+    flat-turn (painted (at332 a.p.now)) l.i _ a.out.now l.invariant
+    (is_332 a.p.now a.table.now l.i _ _ _ _ c.requires.1.1 c.u8_at.ensures.0 c.read332.ensures c.from_color.ensures)
 
 pub returns : goal.returns
 returns c =
     let a = c.args in
-    c.loop-i.invariant.0 ∙ ap (λ (n : ℕ). swept (painted (at332 a.p.now)) 0 n a.out.now) (omega arith)
+    c.loop-i.invariant ∙ ap (λ (n : ℕ). swept (painted (at332 a.p.now)) 0 n a.out.now) (omega arith)

@@ -1,13 +1,8 @@
 -- What is left is as before, what is behind is painted.
 use mathlib.Core.Path.{◌≡◌}
-use Prim.Native.Nat.{◌-◌, ◌≤◌}
-use lib.ListN.{length}
 use Rattle.lbmp.specs.Image.{at332}
 use Rattle.lbmp.specs.Walk.{swept, painted}
 use Rattle.lbmp.proofs.paint.bytes332.Given as goal
 
 abbrev pub invariant-loop-i : goal.invariant-loop-i
-invariant-loop-i l = (l.out ≡ swept (painted (at332 l.p)) 0 l.i l.initial.out) × (length l.out ≡ length l.initial.out) × (l.i ≤ l.n)
-
-abbrev pub decreases-loop-i : goal.decreases-loop-i
-decreases-loop-i l = l.n - l.i
+invariant-loop-i l = l.out ≡ swept (painted (at332 l.p)) 0 l.i l.initial.out

@@ -1,54 +1,44 @@
 -- The rows behind are painted.
-use mathlib.Core.Path.{refl, ap, ◌∙◌}
-use Prim.Native.Nat.{◌*◌}
+use mathlib.Core.Path.{◌≡◌, ◌∙◌}
+use Prim.Native.Nat.{◌*◌, ◌/◌}
 use native.Mathlib.Omega.{arith}
-use lib.ListN.{length}
+use lib.ListN.{length, take, drop}
 use Rattle.lbmp.specs.Plane.{plane_size}
 use Rattle.lbmp.proofs.planes.Sizes.{plane_row}
-use Rattle.lbmp.proofs.paint.Walks.{rows_none, row_turn, rows_all, swept-length}
+use Rattle.lbmp.proofs.paint.Walks.{rows_none, row_turn, rows_all}
 use Rattle.lbmp.proofs.paint.Places.{row_room}
-use Rattle.lbmp.proofs.paint.Images.{high_is, low-is, high-length, low-length, greys_are}
+use Rattle.lbmp.proofs.paint.Images.{greys_are}
 use Rattle.lbmp.proofs.paint.greys.Goals as goal
 
 pub loop-y-init : goal.loop-y-init
-loop-y-init c =
-    let a = c.args in
-    (rows_none _ a.h.width a.out.now, refl, omega arith)
+loop-y-init c = rows_none _ c.args.h.width c.args.out.now
 
 pub grey_row-requires : goal.grey_row-requires
 grey_row-requires c =
     let p = c.requires in
     let a = c.args in
     let l = c.loop-y in
-    let t = c.loop-y-test in
-    let n = plane_size a.h.width a.h.height in
-    let row = plane_row a.h.width a.h.height l.y t.true in (
-      omega (arith, row, high-length a.p.now n p.0),
+    let s = c.split_at.ensures in
+    let row = plane_row a.h.width a.h.height l.y c.loop-y-test.true in (
+      omega (arith, row, p.0, s.front_len),
       (
-        omega (arith, row, low-length a.p.now n p.0),
-        omega (arith, row_room a.h.width a.h.height l.y (length a.out.now) t.true p.1, l.invariant.1),
+        omega (arith, row, p.0, s.back_len),
+        omega (arith, row_room a.h.width a.h.height l.y (length a.out.now) c.loop-y-test.true p.1, l.auto.out),
       ),
     )
 
 pub loop-y-preserved : goal.loop-y-preserved
-loop-y-preserved c =
-    let a = c.args in
-    let l = c.loop-y in
-    let grey-row = c.grey_row in (
-      row_turn _ a.h.width l.y a.out.now l.invariant.0 grey-row.ensures,
-      ap length grey-row.ensures ∙ swept-length _ _ _ _
-          ∙ l.invariant.1,
-      omega arith,
-    )
-
-pub shape_of-out : goal.shape_of-out
-shape_of-out c = c.loop-y.invariant.1
+loop-y-preserved c = row_turn _ c.args.h.width c.loop-y.y c.args.out.now c.loop-y.invariant c.grey_row.ensures
 
 pub returns : goal.returns
 returns c =
-    let a = c.args in
     let p = c.requires in
+    let a = c.args in
     let l = c.loop-y in
+    let s = c.split_at in
     let n = plane_size a.h.width a.h.height in
-    rows_all _ a.h.width a.h.height l.y a.out.now l.invariant.0 l.invariant.2 c.loop-y-test.false
-    ∙ greys_are a.p.now _ _ a.out.now n a.h.width (a.h.width * a.h.height) (high_is a.p.now n p.0) (low-is a.p.now n p.0)
+    let half : length a.p.now / 2 ≡ n = omega (arith, p.0) in
+    let high : s.result.0.now ≡ take n a.p.now = rw half at s.ensures.front in
+    let low : s.result.1.now ≡ drop n a.p.now = rw half at s.ensures.back in
+    rows_all _ a.h.width a.h.height l.y a.out.now l.invariant l.auto.y-end c.loop-y-test.false
+    ∙ greys_are a.p.now _ _ a.out.now n a.h.width (a.h.width * a.h.height) high low

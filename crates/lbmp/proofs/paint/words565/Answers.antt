@@ -2,7 +2,6 @@
 use mathlib.Core.Path.{refl, ap, ◌∙◌}
 use Prim.Native.Nat.{ℕ}
 use native.Mathlib.Omega.{arith}
-use lib.ListN.{length-set}
 use Rattle.lbmp.specs.Image.{at565}
 use Rattle.lbmp.specs.Walk.{swept, painted}
 use Rattle.lbmp.proofs.paint.Walks.{flat-turn}
@@ -11,26 +10,17 @@ use Rattle.lbmp.proofs.paint.words565.Goals as goal
 
 pub loop-i-init : goal.loop-i-init
 unfolding swept
-loop-i-init c = (refl, refl, omega arith)
+loop-i-init c = refl
 
 pub loop-i-preserved : goal.loop-i-preserved
 loop-i-preserved c =
     let a = c.args in
-    let p = c.requires in
+    let p = c.requires.1.1 in
     let l = c.loop-i in
-    let u16-at = c.u16_at in
-    let read565 = c.read565 in (
-      flat-turn (painted (at565 a.p.now)) l.i c.from_color.result a.out.now l.invariant.0
-          (is_565 a.p.now a.levels5.now a.levels6.now l.i u16-at.result c.from_color.result _ read565.result p.1.1.0
-          p.1.1.1 u16-at.ensures.0 read565.ensures c.from_color.ensures),
-      simp length-set l.invariant.1,
-      omega arith,
-    )
-
-pub shape_of-out : goal.shape_of-out
-shape_of-out c = c.loop-i.invariant.1
+    flat-turn (painted (at565 a.p.now)) l.i _ a.out.now l.invariant
+    (is_565 a.p.now a.levels5.now a.levels6.now l.i _ _ _ _ p.0 p.1 c.u16_at.ensures.0 c.read565.ensures c.from_color.ensures)
 
 pub returns : goal.returns
 returns c =
     let a = c.args in
-    c.loop-i.invariant.0 ∙ ap (λ (n : ℕ). swept (painted (at565 a.p.now)) 0 n a.out.now) (omega arith)
+    c.loop-i.invariant ∙ ap (λ (n : ℕ). swept (painted (at565 a.p.now)) 0 n a.out.now) (omega arith)

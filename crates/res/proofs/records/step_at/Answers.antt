@@ -1,6 +1,5 @@
 -- The end, another depth, or by the type.
 use mathlib.Core.Path.{sym, ◌∙◌}
-use Prim.Native.Nat.{◌+◌}
 use native.Mathlib.Omega.{arith}
 use borrow.Author.Tests.{ltb-true}
 use lib.ListN.{length}
@@ -10,31 +9,10 @@ use Rattle.res.proofs.records.step_at.Goals as goal
 pub returns-then-is_cut : goal.returns-then-is_cut
 returns-then-is_cut c = at-end _ _ (ltb-true _ _ (sym c.is_cut.ensures ∙ c.if-is_cut.true))
 
-pub u8_at-kind-requires : goal.u8_at-kind-requires
-u8_at-kind-requires c =
-    let a = c.args in
-    omega (arith, uncut (length a.file.now) (a.at + 8) _ c.is_cut.ensures c.if-is_cut.false)
-
-pub overflow_add-at : goal.overflow_add-at
-overflow_add-at c =
-    let a = c.args in
-    record { fits = omega (arith, uncut (length a.file.now) (a.at + 8) _ c.is_cut.ensures c.if-is_cut.false) }
-
-pub u8_at-depth-requires : goal.u8_at-depth-requires
-u8_at-depth-requires c =
-    let a = c.args in
-    omega (arith, uncut (length a.file.now) (a.at + 8) _ c.is_cut.ensures c.if-is_cut.false)
-
 pub returns-then-depth-ne8 : goal.returns-then-depth-ne8
 returns-then-depth-ne8 c =
     let a = c.args in
     too_deep a.file.now a.at (uncut _ _ _ c.is_cut.ensures c.if-is_cut.false) (λ q. omega (arith, q, c.u8_at-depth.ensures.0, c.if-depth-ne8.true))
-
-pub static_at-requires : goal.static_at-requires
-static_at-requires c = uncut _ _ _ c.is_cut.ensures c.if-is_cut.false
-
-pub moving_at-requires : goal.moving_at-requires
-moving_at-requires c = uncut _ _ _ c.is_cut.ensures c.if-is_cut.false
 
 pub returns-in-2 : goal.returns-in-2
 returns-in-2 c =
@@ -49,5 +27,5 @@ returns-in-3 c =
 pub returns-in_default : goal.returns-in_default
 returns-in_default c =
     let a = c.args in
-    type_other a.file.now a.at (λ q. c.in_default.in_default-own.rest.0.1 (c.u8_at-kind.ensures.0 ∙ q)) (λ q. c.in_default.in_default-own.rest.1 (c.u8_at-kind.ensures.0 ∙ q))
+    type_other a.file.now a.at (λ q. omega (arith, q, c.u8_at-kind.ensures.0)) (λ q. omega (arith, q, c.u8_at-kind.ensures.0))
     ∙ right-depth _ _ (uncut _ _ _ c.is_cut.ensures c.if-is_cut.false) (omega (arith, c.u8_at-depth.ensures.0, c.if-depth-ne8.false))
