@@ -1,12 +1,9 @@
 -- No two outcomes satisfy the contract of a public function: the readings of an answer tell its cases apart.
-use Rattle.std.proofs.Common.{◌≡◌, ℕ, cond, eqb, List, sym, refl, ap, ◌∙◌, arith}
+use Rattle.std.proofs.Common.{◌≡◌, ℕ, cond, eqb, List, sym, refl, ap, ◌∙◌, arith, Option, Result, Ok, Err}
 use Rattle.canvas.specs.declared.Refusal.{Refusal}
 use Rattle.canvas.specs.declared.Refusal.TheVariants.{Format, Size, Length, Source, Angle, Shape, Row, Rule}
-use Rattle.canvas.specs.declared.Drawn.{Drawn}
-use Rattle.canvas.specs.declared.Drawn.TheVariants.{Refused, Done}
 use Rattle.canvas.specs.declared.Tally.{Tally}
-use Rattle.canvas.specs.declared.Pixel.{Pixel}
-use Rattle.canvas.specs.declared.Pixel.TheVariants as pixel
+use Rattle.words.specs.declared.Color.{Color}
 use Rattle.canvas.specs.Faults.{number}
 use Rattle.canvas.specs.Call.{Outcome, status_of, count_of, leaves}
 use Rattle.canvas.specs.Walk.{Work, work}
@@ -18,7 +15,6 @@ use Rattle.canvas.proofs.boxes.draw_rect.Reads as draw-rect
 use Rattle.canvas.proofs.boxes.fill_rect.Reads as fill-rect
 use Rattle.canvas.proofs.areas.invert_rect.Reads as invert-rect
 use Rattle.canvas.proofs.look.get_pixel.Reads as get-pixel
-use Rattle.canvas.proofs.faults.or_else.Reads as or_else
 use Rattle.canvas.proofs.faults.judge.Reads as judge
 use Rattle.canvas.proofs.span.lift.Reads as lift
 use Rattle.canvas.proofs.span.signed.Reads as signed
@@ -32,8 +28,8 @@ use Rattle.canvas.proofs.boxes.edges_in.Reads as edges_in
 use Rattle.canvas.proofs.boxes.outline_in.Reads as outline_in
 use Rattle.canvas.proofs.Clip.intersect.Reads as intersect
 use Rattle.canvas.proofs.Refusal.number.Reads as number_of_lem
-use Rattle.canvas.proofs.Drawn.status.Reads as status
-use Rattle.canvas.proofs.Drawn.count.Reads as count
+use Rattle.canvas.proofs.status.Reads as status
+use Rattle.canvas.proofs.count.Reads as count
 
 -- ---- refusals and answers, from their numbers
 
@@ -69,31 +65,26 @@ no_zero Shape e = omega arith
 no_zero Row e = omega arith
 no_zero Rule e = omega arith
 
-same-drawn : (d e : Drawn) → status_of d ≡ status_of e → count_of d ≡ count_of e → d ≡ e
+same-drawn : (d e : Result Tally Refusal) → status_of d ≡ status_of e → count_of d ≡ count_of e → d ≡ e
 unfolding status_of count_of
-same-drawn (Refused r) (Refused s) p q = ap Refused (same_number r s p)
-same-drawn (Refused r) (Done t) p q = absurd (no_zero r p)
-same-drawn (Done t) (Refused r) p q = absurd (no_zero r (sym p))
-same-drawn (Done t) (Done u) p q = ap (λ (n : ℕ). Done (record { landed = n })) q
+same-drawn (Err r) (Err s) p q = ap Err (same_number r s p)
+same-drawn (Err r) (Ok t) p q = absurd (no_zero r p)
+same-drawn (Ok t) (Err r) p q = absurd (no_zero r (sym p))
+same-drawn (Ok t) (Ok u) p q = ap (λ (n : ℕ). Ok (record { landed = n })) q
 
-same-pixel : (p q : Pixel) → look.status_of p ≡ look.status_of q → seen_of p ≡ seen_of q → p ≡ q
+same-pixel : (p q : Result (Option Color) Refusal) → look.status_of p ≡ look.status_of q → seen_of p ≡ seen_of q → p ≡ q
 unfolding look.status_of seen_of
-same-pixel (pixel.Refused r) (pixel.Refused s) e f = ap pixel.Refused (same_number r s e)
-same-pixel (pixel.Refused r) pixel.Nothing e f = absurd (no_zero r e)
-same-pixel (pixel.Refused r) (pixel.Of c) e f = absurd (no_zero r e)
-same-pixel pixel.Nothing (pixel.Refused s) e f = absurd (no_zero s (sym e))
-same-pixel pixel.Nothing pixel.Nothing e f = refl
-same-pixel pixel.Nothing (pixel.Of c) e f = absurd (let z : ◌≡◌ {A = ℕ} 0 1 = cc in omega arith)
-same-pixel (pixel.Of c) (pixel.Refused s) e f = absurd (no_zero s (sym e))
-same-pixel (pixel.Of c) pixel.Nothing e f = absurd (let z : ◌≡◌ {A = ℕ} 0 1 = cc in omega arith)
-same-pixel (pixel.Of c) (pixel.Of d) e f = cc
+same-pixel (Err r) (Err s) e f = ap Err (same_number r s e)
+same-pixel (Err r) (Ok c) e f = absurd (no_zero r e)
+same-pixel (Ok c) (Err s) e f = absurd (no_zero s (sym e))
+same-pixel (Ok c) (Ok d) e f = ap Ok f
 
 -- what leaves the same outcome is the same answer and the same bytes
-pub leaves-same : (d e : Drawn) (b b' : List ℕ) → leaves d b ≡ leaves e b' → (d ≡ e) × (b ≡ b')
+pub leaves-same : (d e : Result Tally Refusal) (b b' : List ℕ) → leaves d b ≡ leaves e b' → (d ≡ e) × (b ≡ b')
 leaves-same d e b b' h =
     (same-drawn d e (ap (λ (o : Outcome). o.status) h) (ap (λ (o : Outcome). o.count) h), ap (λ (o : Outcome). o.bytes) h)
 
-reads_same : (p q : Pixel) → reads p ≡ reads q → p ≡ q
+reads_same : (p q : Result (Option Color) Refusal) → reads p ≡ reads q → p ≡ q
 reads_same p q h = same-pixel p q (ap (λ (r : Reading). r.status) h) (ap (λ (r : Reading). r.color) h)
 
 -- ---- the public functions
@@ -132,9 +123,6 @@ count_determined κs a s s' r r' p q = p ∙ sym q
 
 worked_same : (b b' : List ℕ) (t t' : Tally) → work b t ≡ work b' t' → (t ≡ t') × (b ≡ b')
 worked_same b b' t t' h = (ap (λ (w : Work). w.tally) h, ap (λ (w : Work). w.bytes) h)
-
-pub or_else_determined : (κs : _) (a : _) (s s' : _) (r r' : _) → or_else.Post κs a r s → or_else.Post κs a r' s' → r ≡ r'
-or_else_determined κs a s s' r r' p q = p ∙ sym q
 
 pub judge_determined : (κs : _) (a : _) (s s' : _) (r r' : _) → judge.Post κs a r s → judge.Post κs a r' s' → r ≡ r'
 judge_determined κs a s s' r r' p q = p ∙ sym q

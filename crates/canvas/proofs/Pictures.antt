@@ -1,17 +1,15 @@
 -- What a call does to the picture does not hang on the row. On two canvases that differ in it alone, with the same word at each pixel, a
 -- call gives the same answer and leaves the same word at each pixel: a canvas with tails is drawn on as its visible part is.
-use Rattle.std.proofs.Common.{◌≡◌, ℕ, ◌<◌, List, [], ◌∷◌, ◌++◌, length, sym, refl, ap, ◌∙◌, ap₂}
+use Rattle.std.proofs.Common.{◌≡◌, ℕ, ◌<◌, List, [], ◌∷◌, ◌++◌, length, sym, refl, ap, ◌∙◌, ap₂, Ok, Err}
 use native.Mathlib.Decide.{ℕ_discrete}
 use Rattle.words.specs.Format.{range}
 use Rattle.words.proofs.Stamps.{plot-keeps, invert_stamps, stamps_keep}
 use Rattle.blending.proofs.Laws.{blend_keeps}
 use Rattle.pixels.specs.declared.Canvas.{Canvas}
 use Rattle.canvas.specs.declared.Clip.{Clip}
-use Rattle.canvas.specs.declared.faults.Verdict.{Verdict}
-use Rattle.canvas.specs.declared.faults.Verdict.TheVariants.{Sound, Faulty}
 use Rattle.pixels.specs.Bytes.{form, load_at, store_at, On}
 use Rattle.pixels.specs.Hits.{Hit, touch, paint}
-use Rattle.canvas.specs.Faults.{or_else, verdict}
+use Rattle.canvas.specs.Faults.{Verdict, or_else, verdict}
 use Rattle.canvas.specs.Plot.{Plot, plot, Dye, plain, over, inverse, Dot, dip, fate, hits}
 use Rattle.canvas.specs.Call.{Call, shape, draw, clip_of, fault_of, dots, carried, brush, plots}
 use Rattle.canvas.specs.Calls.{after, unless, landings}
@@ -122,12 +120,12 @@ landings-kept v [] end = none
 landings-kept v (k ∷ ks) (then c cs) = all_append (go (fault_of k)) (landings-kept v ks cs)
   where
     go : (d : Verdict) → All (Kept v) (unless d (hits v (clip_of k) (plots v k)))
-    go Sound = dots-kept v (clip_of k) (dots v k) (call_keeping v k c)
-    go (Faulty n) = none
+    go (Ok u) = dots-kept v (clip_of k) (dots v k) (call_keeping v k c)
+    go (Err n) = none
 
 -- ---- the theorems, of two canvases that are not refused
 
-module _ (v : Canvas) (r : ℕ) (b t : List ℕ) (f : verdict v (length b) ≡ Sound) (g : verdict (rowed v r) (length t) ≡ Sound) where
+module _ (v : Canvas) (r : ℕ) (b t : List ℕ) (f : verdict v (length b) ≡ Ok tt) (g : verdict (rowed v r) (length t) ≡ Ok tt) where
   -- a call lands as many plots, and is refused alike
   pub same-landed : (k : Call) → Sided k
       → (or_else (verdict (rowed v r) (length t)) (fault_of k) ≡ or_else (verdict v (length b)) (fault_of k))

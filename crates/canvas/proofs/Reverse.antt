@@ -1,6 +1,6 @@
 -- Calls with XOR on, made one after the other: any order leaves the same bytes and gives each its answer. Proved over the laws of stamps
 -- and of bytes; a shape is any points in one dye. What is left where they are made again is in Stains.
-use Rattle.std.proofs.Common.{◌≡◌, ℕ, Bool, true, List, [], ◌∷◌, ◌++◌, map, length, sym, refl, ap, ◌∙◌, ap₂, append_assoc}
+use Rattle.std.proofs.Common.{◌≡◌, ℕ, Bool, true, List, [], ◌∷◌, ◌++◌, map, length, sym, refl, ap, ◌∙◌, ap₂, append_assoc, Ok, Err}
 use mathlib.Core.List.{flat_map}
 use mathlib.Core.List.Permᴰ
 use mathlib.Core.List.{Permᴰ}
@@ -12,10 +12,8 @@ use Rattle.blending.proofs.Laws.{blend_stamps}
 use Rattle.pixels.specs.declared.Canvas.{Canvas}
 use Rattle.canvas.specs.declared.Clip.{Clip}
 use Rattle.canvas.specs.declared.Refusal.{Refusal}
-use Rattle.canvas.specs.declared.faults.Verdict.{Verdict}
-use Rattle.canvas.specs.declared.faults.Verdict.TheVariants.{Sound, Faulty}
 use Rattle.pixels.specs.Bytes.{form, On}
-use Rattle.canvas.specs.Faults.{or_else, verdict}
+use Rattle.canvas.specs.Faults.{Verdict, or_else, verdict}
 use Rattle.canvas.specs.Plot.{Point, Dye, plain, over, inverse, Dot, tint, plot, dip, fate, hits}
 use Rattle.pixels.specs.Hits.{Hit, paint}
 use Rattle.canvas.specs.Call.{Call, shape, draw, clip_of, fault_of, source_color, dots, carried, brush, plots, ruled, drawing, call}
@@ -118,8 +116,8 @@ call_stamped : (v : Canvas) → v.xor ≡ true → (k : Call) → Colored k → 
 call_stamped v x k c = go (fault_of k)
   where
     go : (d : Verdict) → All (Stamped v) (unless d (hits v (clip_of k) (plots v k)))
-    go Sound = dots_stamped v (clip_of k) (dots v k) (call_dyes v x k c)
-    go (Faulty r) = none
+    go (Ok u) = dots_stamped v (clip_of k) (dots v k) (call_dyes v x k c)
+    go (Err r) = none
 
 -- ---- the hits of a list of calls
 
@@ -153,23 +151,23 @@ hits-perm v (Permᴰ.trans p q) = Permᴰ.trans (hits-perm v p) (hits-perm v q)
 -- ---- what a list of calls leaves: the paint of its hits, or, refused, the first bytes
 
 -- what one call leaves on a sound canvas
-call_paints : (v : Canvas) (k : Call) (b : List ℕ) → verdict v (length b) ≡ Sound → (call v k b).bytes ≡ paint v (landing v k (plots v k)) b
+call_paints : (v : Canvas) (k : Call) (b : List ℕ) → verdict v (length b) ≡ Ok tt → (call v k b).bytes ≡ paint v (landing v k (plots v k)) b
 unfolding drawing or_else paint
 call_paints v k b e = rw e (go (fault_of k))
   where
     go : (d : Verdict) → (ruled d (length (hits v (clip_of k) (plots v k))) (paint v (hits v (clip_of k) (plots v k)) b) b).bytes ≡ paint v (unless d (hits v (clip_of k) (plots v k))) b
-    go Sound = refl
-    go (Faulty r) = refl
+    go (Ok u) = refl
+    go (Err r) = refl
 
-pub after_sound : (v : Canvas) (ks : List Call) (b : List ℕ) → Screen v b → verdict v (length b) ≡ Sound → after v ks b ≡ paint v (landings v ks) b
+pub after_sound : (v : Canvas) (ks : List Call) (b : List ℕ) → Screen v b → verdict v (length b) ≡ Ok tt → after v ks b ≡ paint v (landings v ks) b
 unfolding after landings paint
 after_sound v [] b s e = refl
 after_sound v (k ∷ ks) b s e =
     let hs : List Hit = landing v k (plots v k) in
-    let e' : verdict v (length (paint v hs b)) ≡ Sound = rw (paint-length v hs b) e in
+    let e' : verdict v (length (paint v hs b)) ≡ Ok tt = rw (paint-length v hs b) e in
     ap (after v ks) (call_paints v k b e) ∙ after_sound v ks (paint v hs b) (paint_screen hs s) e' ∙ sym (paint-append v hs (landings v ks) b)
 
-pub after_faulty : (v : Canvas) (ks : List Call) (b : List ℕ) (r : Refusal) → verdict v (length b) ≡ Faulty r → after v ks b ≡ b
+pub after_faulty : (v : Canvas) (ks : List Call) (b : List ℕ) (r : Refusal) → verdict v (length b) ≡ Err r → after v ks b ≡ b
 unfolding after drawing or_else
 after_faulty v [] b r e = refl
 after_faulty v (k ∷ ks) b r e = let q : (call v k b).bytes ≡ b = rw e refl in ap (after v ks) q ∙ after_faulty v ks b r e
@@ -178,15 +176,15 @@ after-length : (v : Canvas) (ks : List Call) (b : List ℕ) → Bytes b → leng
 after-length v ks b o = go (verdict v (length b)) refl
   where
     go : (d : Verdict) → verdict v (length b) ≡ d → length (after v ks b) ≡ length b
-    go (Faulty r) e = ap length (after_faulty v ks b r e)
-    go Sound e =
+    go (Err r) e = ap length (after_faulty v ks b r e)
+    go (Ok u) e =
         let s : Screen v b = record { long = (sized v b e).long; bytes = o } in
         ap length (after_sound v ks b s e) ∙ paint-length v (landings v ks) b
 
 -- an answer's number and count do not hang on the bytes
 ruled_alike : (d : Verdict) (n : ℕ) (p b p' b' : List ℕ) → ((ruled d n p b).status ≡ (ruled d n p' b').status) × ((ruled d n p b).count ≡ (ruled d n p' b').count)
-ruled_alike Sound n p b p' b' = (refl, refl)
-ruled_alike (Faulty r) n p b p' b' = (refl, refl)
+ruled_alike (Ok u) n p b p' b' = (refl, refl)
+ruled_alike (Err r) n p b p' b' = (refl, refl)
 
 -- ---- the theorems
 
@@ -203,13 +201,13 @@ pub any_order : (v : Canvas) (ks ls : List Call) (b : List ℕ) → v.xor ≡ tr
 any_order v ks ls b x o f p = go (verdict v (length b)) refl
   where
     go : (d : Verdict) → verdict v (length b) ≡ d → after v ks b ≡ after v ls b
-    go (Faulty r) e = after_faulty v ks b r e ∙ sym (after_faulty v ls b r e)
-    go Sound e =
+    go (Err r) e = after_faulty v ks b r e ∙ sym (after_faulty v ls b r e)
+    go (Ok u) e =
         let s : Screen v b = record { long = (sized v b e).long; bytes = o } in
         after_sound v ks b s e ∙ paint-perm v (Stamped v) (stamped v) b (hits-perm v p) s (hits_all v x ks f) ∙ sym (after_sound v ls b s e)
 
 -- made again in any order, each hit's ink is put on twice
-pub made_again : (v : Canvas) (ks ls : List Call) (b : List ℕ) → v.xor ≡ true → Screen v b → verdict v (length b) ≡ Sound → Fine ks → Permᴰ ks ls
+pub made_again : (v : Canvas) (ks ls : List Call) (b : List ℕ) → v.xor ≡ true → Screen v b → verdict v (length b) ≡ Ok tt → Fine ks → Permᴰ ks ls
     → after v (ks ++ ls) b ≡ paint v (map doubled (landings v ks)) b
 made_again v ks ls b x s e f p =
     after_sound v (ks ++ ls) b s e ∙ ap (λ (hs : List Hit). paint v hs b) (hits-append v ks ls)

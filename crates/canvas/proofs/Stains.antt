@@ -1,6 +1,6 @@
 -- What a second pass leaves, in any order: where a dye that stays has landed the word is settled, and all else is as before. Of the bytes
 -- first, then of the word at each pixel; and where the first bytes come back.
-use Rattle.std.proofs.Common.{◌≡◌, ℕ, ◌<◌, ◌≤◌, Bool, true, false, cond, not, ◌&&◌, ◌||◌, eqb, List, [], ◌∷◌, ◌++◌, map, length, nat_abs, sym, refl, ap, ◌∙◌, ap₂, arith, eq-eqb, ne_eqb}
+use Rattle.std.proofs.Common.{◌≡◌, ℕ, ◌<◌, ◌≤◌, Bool, true, false, cond, not, ◌&&◌, ◌||◌, eqb, List, [], ◌∷◌, ◌++◌, map, length, nat_abs, sym, refl, ap, ◌∙◌, ap₂, arith, eq-eqb, ne_eqb, Ok, Err}
 use mathlib.Core.List.{map-append, Permᴰ, Mem, mem-cons_self, mem-cons_of_mem}
 use native.Mathlib.Decide.{ℕ_discrete}
 use Rattle.words.specs.Format.{Format, range}
@@ -9,11 +9,9 @@ use Rattle.words.proofs.Either.{neither}
 use Rattle.words.proofs.Stamps.{left, settled_narrow, settled_twice, settled_fits, stamps_twice}
 use Rattle.pixels.specs.declared.Canvas.{Canvas}
 use Rattle.canvas.specs.declared.Clip.{Clip}
-use Rattle.canvas.specs.declared.faults.Verdict.{Verdict}
-use Rattle.canvas.specs.declared.faults.Verdict.TheVariants.{Sound, Faulty}
 use Rattle.pixels.specs.Bytes.{form, load_at, store_at, On}
 use Rattle.canvas.specs.Clip.{in_clip}
-use Rattle.canvas.specs.Faults.{verdict}
+use Rattle.canvas.specs.Faults.{Verdict, verdict}
 use Rattle.canvas.specs.Plot.{plot, Dye, plain, over, inverse, Dot, dip, on_canvas, Fate, landed, outside, clipped, judge, fate, hit_of, keep, hits}
 use Rattle.pixels.specs.Hits.{Hit, touch, paint}
 use Rattle.canvas.specs.Call.{Call, shape, draw, clip_of, fault_of, dots, brush, plots}
@@ -64,8 +62,8 @@ by_call : (v : Canvas) → v.xor ≡ true → (k : Call) (b : List ℕ) → Scre
 by_call v x k b s c = go (fault_of k)
   where
     go : (d : Verdict) → paint v (map doubled (unless d (hits v (clip_of k) (plots v k)))) b ≡ paint v (unless d (leavings v (clip_of k) (staying (form v) (dots v k)))) b
-    go Sound = by_dots v (clip_of k) (dots v k) b s (call_dyes v x k c)
-    go (Faulty r) = refl
+    go (Ok u) = by_dots v (clip_of k) (dots v k) b s (call_dyes v x k c)
+    go (Err r) = refl
 
 by_calls : (v : Canvas) → v.xor ≡ true → (ks : List Call) (b : List ℕ) → Screen v b → Fine ks → paint v (map doubled (landings v ks)) b ≡ paint v (stains v ks) b
 unfolding landings stains paint
@@ -78,7 +76,7 @@ by_calls v x (k ∷ ks) b s (then c cs) =
     ∙ ap (paint v (stains v ks)) (by_call v x k b s c) ∙ sym (paint-append v (stain v k) (stains v ks) b)
 
 -- on a canvas that is not refused, calls, accepted or refused, made and made again in any order, leave their stains
-pub stained : (v : Canvas) (ks ls : List Call) (b : List ℕ) → v.xor ≡ true → Bytes b → verdict v (length b) ≡ Sound → Fine ks → Permᴰ ks ls
+pub stained : (v : Canvas) (ks ls : List Call) (b : List ℕ) → v.xor ≡ true → Bytes b → verdict v (length b) ≡ Ok tt → Fine ks → Permᴰ ks ls
     → after v (ks ++ ls) b ≡ paint v (stains v ks) b
 stained v ks ls b x o e f p =
     let s : Screen v b = record { long = (sized v b e).long; bytes = o } in
@@ -102,8 +100,8 @@ stains_settle v [] = none
 stains_settle v (k ∷ ks) = all_append (go (fault_of k)) (stains_settle v ks)
   where
     go : (d : Verdict) → All (Settles v) (unless d (leavings v (clip_of k) (staying (form v) (dots v k))))
-    go Sound = dots_settle v (clip_of k) (staying (form v) (dots v k))
-    go (Faulty r) = none
+    go (Ok u) = dots_settle v (clip_of k) (staying (form v) (dots v k))
+    go (Err r) = none
 
 module _ (v : Canvas) (x y : ℕ) (o : On v x y) where
   abbrev word : List ℕ → ℕ
@@ -135,7 +133,7 @@ module _ (v : Canvas) (x y : ℕ) (o : On v x y) where
       ∙ left_both (eqb h.x x && eqb h.y y) (struck hs x y) (word b)
 
 -- of a canvas that is not refused: the word at every pixel
-pub words_back : (v : Canvas) (ks ls : List Call) (b : List ℕ) → v.xor ≡ true → Bytes b → verdict v (length b) ≡ Sound → Fine ks → Permᴰ ks ls
+pub words_back : (v : Canvas) (ks ls : List Call) (b : List ℕ) → v.xor ≡ true → Bytes b → verdict v (length b) ≡ Ok tt → Fine ks → Permᴰ ks ls
     → (x y : ℕ) → On v x y → load_at v (after v (ks ++ ls) b) x y ≡ cond (struck (stains v ks) x y) (settled (form v) (load_at v b x y)) (load_at v b x y)
 words_back v ks ls b xo o e f p x y on =
     ap (λ (c : List ℕ). load_at v c x y) (stained v ks ls b xo o e f p)
@@ -148,8 +146,8 @@ module _ (v : Canvas) (ks ls : List Call) (b : List ℕ) (x : v.xor ≡ true) (o
   back h = go (verdict v (length b)) refl
     where
       go : (d : Verdict) → verdict v (length b) ≡ d → after v (ks ++ ls) b ≡ b
-      go (Faulty r) e = after_faulty v (ks ++ ls) b r e
-      go Sound e = stained v ks ls b x o e f p ∙ h (record { long = (sized v b e).long; bytes = o })
+      go (Err r) e = after_faulty v (ks ++ ls) b r e
+      go (Ok u) e = stained v ks ls b x o e f p ∙ h (record { long = (sized v b e).long; bytes = o })
 
   -- where words have no top byte
   pub narrow_back : range (form v) ≤ 16777216 → after v (ks ++ ls) b ≡ b
@@ -186,8 +184,8 @@ none_stained v k e =
     rw q (go (fault_of k))
   where
     go : (d : Verdict) → unless d [] ≡ []
-    go Sound = refl
-    go (Faulty r) = refl
+    go (Ok u) = refl
+    go (Err r) = refl
 
 pub unstained : (v : Canvas) (ks : List Call) → ((k : Call) → Mem k ks → inverts k ≡ keeps_alpha (form v)) → stains v ks ≡ []
 unfolding stains
@@ -255,10 +253,10 @@ by_inversions v (k ∷ ks) x y a = struck-append (stain v k) (stains v ks) x y �
   where
     one : inverts k ≡ true → (d : Verdict)
         → struck (unless d (leavings v (clip_of k) (staying (form v) (dots v k)))) x y ≡ struck (unless d (hits v (clip_of k) (plots v k))) x y
-    one e Sound =
+    one e (Ok u) =
         rw (all_staying (form v) (dots v k) (every_dot _ v k (call_stays (form v) k a e)))
         (any_ink v (clip_of k) (λ d. settled (form v)) (brush v) x y (dots v k))
-    one e (Faulty r) = refl
+    one e (Err r) = refl
 
     go : (t : Bool) → inverts k ≡ t → struck (stains v ks) x y ≡ struck (landings v (those inverts ks)) x y
         → struck (stain v k) x y || struck (stains v ks) x y
@@ -277,8 +275,8 @@ by_drawings v (k ∷ ks) x y a z = struck-append (stain v k) (stains v ks) x y �
     rest = those (λ j. not (inverts j)) ks
 
     one : (d : Verdict) → struck (unless d (hits v (clip_of k) (plots v k))) x y ≡ false → struck (unless d (leavings v (clip_of k) (staying (form v) (dots v k)))) x y ≡ false
-    one Sound e = fewer v (clip_of k) (brush v) (λ d. settled (form v)) x y (form v) (dots v k) e
-    one (Faulty r) e = refl
+    one (Ok u) e = fewer v (clip_of k) (brush v) (λ d. settled (form v)) x y (form v) (dots v k) e
+    one (Err r) e = refl
 
     go : (t : Bool) → inverts k ≡ t → struck (landings v (cond (not t) (k ∷ rest) rest)) x y ≡ false → (struck (landings v rest) x y ≡ false → struck (stains v ks) x y ≡ false)
         → struck (stain v k) x y || struck (stains v ks) x y ≡ false

@@ -1,12 +1,10 @@
 -- Rows with a tail: no call changes a byte of one; and a canvas whose row is its width is refused as if there were no rows.
-use Rattle.std.proofs.Common.{◌≡◌, ℕ, Bool, true, false, ◌||◌, ltb, List, [], ◌∷◌, length, get_or, refl, ap, ◌∙◌, le_refl, le-ltb}
+use Rattle.std.proofs.Common.{◌≡◌, ℕ, Bool, true, false, ◌||◌, ltb, List, [], ◌∷◌, length, get_or, refl, ap, ◌∙◌, le_refl, le-ltb, Ok, Err}
 use Rattle.pixels.specs.declared.Canvas.{Canvas}
 use Rattle.canvas.specs.declared.Clip.{Clip}
 use Rattle.canvas.specs.declared.Refusal.TheVariants.{Size, Row}
-use Rattle.canvas.specs.declared.faults.Verdict.{Verdict}
-use Rattle.canvas.specs.declared.faults.Verdict.TheVariants.{Sound, Faulty}
 use Rattle.pixels.specs.Bytes.{byte, get, Tail}
-use Rattle.canvas.specs.Faults.{fault, format_fault, rule_fault, size_fault, row_fault, length_fault, or_else, first, verdict}
+use Rattle.canvas.specs.Faults.{Verdict, fault, format_fault, rule_fault, size_fault, row_fault, length_fault, or_else, first, verdict}
 use Rattle.canvas.specs.Plot.{Plot}
 use Rattle.canvas.specs.Call.{Call, clip_of, fault_of, plots, drawing, call}
 use Rattle.canvas.specs.Calls.{after}
@@ -16,8 +14,8 @@ use Rattle.canvas.proofs.plot.Paints.{untouched}
 -- "Bytes in the tails stay as they are in every call": whatever is plotted, accepted or refused. A copy is a drawing too.
 pub tail_stays : (d : Verdict) (v : Canvas) (c : Clip) (ps : List Plot) (b : List ℕ) (o : ℕ) → Tail v o → get_or (drawing d v c ps b).bytes o 0 ≡ get_or b o 0
 unfolding drawing get
-tail_stays Sound v c ps b o t = untouched v c ps b (byte o) (tail_free v o t)
-tail_stays (Faulty r) v c ps b o t = refl
+tail_stays (Ok u) v c ps b o t = untouched v c ps b (byte o) (tail_free v o t)
+tail_stays (Err r) v c ps b o t = refl
 
 -- and so through a list of calls, with XOR on or off
 pub tails-after : (v : Canvas) (ks : List Call) (b : List ℕ) (o : ℕ) → Tail v o → get_or (after v ks b) o 0 ≡ get_or b o 0
@@ -42,4 +40,4 @@ pub even_verdict :
 unfolding verdict first size_fault row_fault
 even_verdict v n e =
     ap (λ (d : Verdict). or_else (format_fault v) (or_else (rule_fault v) d))
-    (row_idle v.width v.row v.height (or_else (length_fault v n) Sound) e)
+    (row_idle v.width v.row v.height (or_else (length_fault v n) (Ok tt)) e)

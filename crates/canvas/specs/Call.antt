@@ -1,5 +1,5 @@
 -- The drawing calls: the plots that each makes, and what it answers and leaves.
-use Rattle.std.specs.Prelude.{ℕ, List, [], ◌∷◌, length, ℤ, unsigned_abs}
+use Rattle.std.specs.Prelude.{ℕ, List, [], ◌∷◌, length, ℤ, unsigned_abs, Result, Ok, Err}
 use Rattle.words.specs.declared.Color.{Color}
 use Rattle.words.specs.Word.{to_color}
 use Rattle.words.specs.Ink.{plot_word}
@@ -7,12 +7,10 @@ use Rattle.words.specs.Invert.{invert_word}
 use Rattle.blending.specs.Blend.{Rule, rule_of, blend_word}
 use Rattle.pixels.specs.declared.Canvas.{Canvas}
 use Rattle.canvas.specs.declared.Clip.{Clip}
-use Rattle.canvas.specs.declared.Drawn.{Drawn}
-use Rattle.canvas.specs.declared.Drawn.TheVariants.{Refused, Done}
-use Rattle.canvas.specs.declared.faults.Verdict.{Verdict}
-use Rattle.canvas.specs.declared.faults.Verdict.TheVariants.{Sound, Faulty}
+use Rattle.canvas.specs.declared.Refusal.{Refusal}
+use Rattle.canvas.specs.declared.Tally.{Tally}
 use Rattle.pixels.specs.Bytes.{form, load_at}
-use Rattle.canvas.specs.Faults.{number, or_else, verdict, as_source}
+use Rattle.canvas.specs.Faults.{number, Verdict, or_else, verdict, as_source}
 use Rattle.canvas.specs.Plot.{Point, Plot, at, Dye, plain, over, inverse, Dot, tint, dip, hits}
 use Rattle.pixels.specs.Hits.{paint}
 use Rattle.canvas.specs.Lines.{line}
@@ -24,19 +22,19 @@ pub data Call : Type 0 where
   draw : ℤ → ℤ → ℕ → ℕ → Canvas → List ℕ → ℤ → ℤ → Clip → Call
 
 abbrev pub put_pixel : ℤ → ℤ → Color → Clip → Call
-put_pixel x y color clip = shape Sound (λ v. at x y ∷ []) (plain color) clip
+put_pixel x y color clip = shape (Ok tt) (λ v. at x y ∷ []) (plain color) clip
 
 abbrev pub draw_line : ℤ → ℤ → ℤ → ℤ → Color → Clip → Call
-draw_line x1 y1 x2 y2 color clip = shape Sound (λ v. line v x1 y1 x2 y2) (plain color) clip
+draw_line x1 y1 x2 y2 color clip = shape (Ok tt) (λ v. line v x1 y1 x2 y2) (plain color) clip
 
 abbrev pub draw_rect : ℤ → ℤ → ℕ → ℕ → Color → Clip → Call
-draw_rect x y w h color clip = shape Sound (λ v. outline v x y w h) (plain color) clip
+draw_rect x y w h color clip = shape (Ok tt) (λ v. outline v x y w h) (plain color) clip
 
 abbrev pub fill_rect : ℤ → ℤ → ℕ → ℕ → Color → Clip → Call
-fill_rect x y w h color clip = shape Sound (λ v. fill v x y w h) (plain color) clip
+fill_rect x y w h color clip = shape (Ok tt) (λ v. fill v x y w h) (plain color) clip
 
 abbrev pub invert_rect : ℤ → ℤ → ℕ → ℕ → Clip → Call
-invert_rect x y w h clip = shape Sound (λ v. fill v x y w h) inverse clip
+invert_rect x y w h clip = shape (Ok tt) (λ v. fill v x y w h) inverse clip
 
 abbrev pub clip_of : Call → Clip
 clip_of (shape own points dye clip) = clip
@@ -80,21 +78,21 @@ abbrev pub outcome : ℕ → ℕ → List ℕ → Outcome
 outcome s n b = record { status = s; count = n; bytes = b }
 
 -- 01's number and count of each answer.
-unfoldable pub status_of : Drawn → ℕ
-status_of (Refused r) = number r
-status_of (Done t) = 0
+unfoldable pub status_of : Result Tally Refusal → ℕ
+status_of (Err r) = number r
+status_of (Ok t) = 0
 
-unfoldable pub count_of : Drawn → ℕ
-count_of (Refused r) = 0
-count_of (Done t) = t.landed
+unfoldable pub count_of : Result Tally Refusal → ℕ
+count_of (Err r) = 0
+count_of (Ok t) = t.landed
 
-abbrev pub leaves : Drawn → List ℕ → Outcome
+abbrev pub leaves : Result Tally Refusal → List ℕ → Outcome
 leaves d b = outcome (status_of d) (count_of d) b
 
 -- "0 | accepted | result, count"; a refusal: "count 0, bytes as before"
 abbrev pub ruled : Verdict → ℕ → List ℕ → List ℕ → Outcome
-ruled Sound n painted b = outcome 0 n painted
-ruled (Faulty r) n painted b = outcome (number r) 0 b
+ruled (Ok u) n painted b = outcome 0 n painted
+ruled (Err r) n painted b = outcome (number r) 0 b
 
 -- "a count ..: the pixels touched, being the number of plots that land on the canvas and inside the clip"; "For area copy and inversion
 -- it is the number of pixels written."

@@ -1,11 +1,10 @@
 -- Calls made one after the other on one canvas, and what stays of them when they are made again.
-use Rattle.std.specs.Prelude.{ℕ, Bool, true, false, cond, not, ◌&&◌, ◌||◌, List, [], ◌∷◌, ◌++◌, ◌==◌}
+use Rattle.std.specs.Prelude.{ℕ, Bool, true, false, cond, not, ◌&&◌, ◌||◌, List, [], ◌∷◌, ◌++◌, ◌==◌, Ok, Err}
 use Rattle.words.specs.Format.{Format}
 use Rattle.words.specs.Ink.{keeps_alpha, settled}
 use Rattle.pixels.specs.declared.Canvas.{Canvas}
-use Rattle.canvas.specs.declared.faults.Verdict.{Verdict}
-use Rattle.canvas.specs.declared.faults.Verdict.TheVariants.{Sound, Faulty}
 use Rattle.pixels.specs.Bytes.{form}
+use Rattle.canvas.specs.Faults.{Verdict}
 use Rattle.canvas.specs.Plot.{Plot, Dye, plain, over, inverse, Dot, dip, hits}
 use Rattle.pixels.specs.Hits.{Hit}
 use Rattle.canvas.specs.Call.{Call, shape, draw, clip_of, fault_of, dots, plots, call}
@@ -17,8 +16,8 @@ after v (k ∷ ks) b = after v ks (call v k b).bytes
 
 -- The hits of some of a call's plots: none where the call has a fault of its own.
 abbrev pub unless : Verdict → List Hit → List Hit
-unless Sound hs = hs
-unless (Faulty r) hs = []
+unless (Ok u) hs = hs
+unless (Err r) hs = []
 
 abbrev pub landing : Canvas → Call → List Plot → List Hit
 landing v k ps = unless (fault_of k) (hits v (clip_of k) ps)

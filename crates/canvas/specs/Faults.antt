@@ -1,10 +1,8 @@
 -- Which canvases are refused, and by which number.
-use Rattle.std.specs.Prelude.{ℕ, Bool, cond, not, ◌||◌, List, [], ◌∷◌, ◌==◌, nat_lt}
+use Rattle.std.specs.Prelude.{ℕ, Bool, cond, not, ◌||◌, List, [], ◌∷◌, ◌==◌, nat_lt, Result, Ok, Err}
 use Rattle.pixels.specs.declared.Canvas.{Canvas}
 use Rattle.canvas.specs.declared.Refusal.{Refusal}
 use Rattle.canvas.specs.declared.Refusal.TheVariants.{Format, Size, Length, Source, Angle, Shape, Row, Rule}
-use Rattle.canvas.specs.declared.faults.Verdict.{Verdict}
-use Rattle.canvas.specs.declared.faults.Verdict.TheVariants.{Sound, Faulty}
 use Rattle.pixels.specs.Bytes.{extent}
 
 -- 01's number of each refusal, and 02's.
@@ -18,9 +16,13 @@ number Shape = 6
 number Row = 18
 number Rule = 23
 
+-- That there is no fault, or which.
+abbrev pub Verdict : Type 0
+Verdict = Result (Unit {0}) Refusal
+
 -- The fault, where the test holds.
 abbrev pub fault : Bool → Refusal → Verdict
-fault t r = cond t (Faulty r) Sound
+fault t r = cond t (Err r) (Ok tt)
 
 -- "1 FORMAT | format above 4"
 unfoldable pub format_fault : Canvas → Verdict
@@ -44,11 +46,11 @@ length_fault v n = fault (not (n == extent v)) Length
 
 -- The first of two faults, and of many.
 unfoldable pub or_else : Verdict → Verdict → Verdict
-or_else Sound d = d
-or_else (Faulty r) d = Faulty r
+or_else (Ok u) d = d
+or_else (Err r) d = Err r
 
 unfoldable pub first : List Verdict → Verdict
-first [] = Sound
+first [] = Ok tt
 first (d ∷ ds) = or_else d (first ds)
 
 -- Where several hold, the first in this order is given: RULE "after FORMAT", "18 ROW .., between SIZE and LENGTH", and then the call's
@@ -58,5 +60,5 @@ verdict v n = first (format_fault v ∷ rule_fault v ∷ size_fault v ∷ row_fa
 
 -- "4 SOURCE | `draw`: the source fails any of 1 to 3"; "a source's bad row is SOURCE"; so is its rule: "a source's is SOURCE".
 abbrev pub as_source : Verdict → Verdict
-as_source Sound = Sound
-as_source (Faulty r) = Faulty Source
+as_source (Ok u) = Ok tt
+as_source (Err r) = Err Source

@@ -1,8 +1,6 @@
 -- Lines: the points that Bresenham's walk plots between the ends that are left of a segment.
-use Rattle.std.specs.Prelude.{ℕ, zero, suc, max, cond, List, [], ◌∷◌, ℤ, pos, negsuc, ◌+ℤ◌, ◌-ℤ◌, neg_ℤ, int_lt, unsigned_abs}
+use Rattle.std.specs.Prelude.{ℕ, zero, suc, max, cond, List, [], ◌∷◌, ℤ, pos, negsuc, ◌+ℤ◌, ◌-ℤ◌, neg_ℤ, int_lt, unsigned_abs, Option, Some, None}
 use Rattle.segments.specs.declared.Segment.{Segment}
-use Rattle.segments.specs.declared.Clipped.{Clipped}
-use Rattle.segments.specs.declared.Clipped.TheVariants.{Left, Nothing}
 use Rattle.segments.specs.Cut.{clip_segment}
 use Rattle.pixels.specs.declared.Canvas.{Canvas}
 use Rattle.canvas.specs.Plot.{Point, at}
@@ -40,9 +38,9 @@ bresenham s =
     let dy = unsigned_abs (s.y2 -ℤ s.y1) in
     walk (step (towards s.x1 s.x2) (towards s.y1 s.y2) dx dy) (max dx dy) (stand s.x1 s.y1 (pos dx -ℤ pos dy))
 
-abbrev pub between : Clipped → List Point
-between Nothing = []
-between (Left s) = bresenham s
+abbrev pub between : Option Segment → List Point
+between None = []
+between (Some s) = bresenham s
 
 -- "A segment .. is kept. Any other is cut .. Then Bresenham as in the Rust"; of nothing left there are no points.
 unfoldable pub line : Canvas → ℤ → ℤ → ℤ → ℤ → List Point

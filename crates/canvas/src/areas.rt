@@ -9,7 +9,7 @@ ghost use Rattle.canvas.specs.Walk.{work, lowered, Did};
 ghost use Rattle.canvas.specs.Call.{invert_rect, leaves, call};
 
 use crate::boxes::fill_in;
-use crate::faults::{Verdict, judge};
+use crate::faults::judge;
 use crate::span::lift;
 use crate::{Clip, Drawn, Tally};
 use pixels::Canvas;
@@ -45,12 +45,8 @@ pub fn invert_rect(
 ) -> Drawn
     ensures { leaves result bytes.new ≡ call canvas (invert_rect x y w h clip) bytes.old }
 {
-    match judge(canvas, bytes.len()) {
-        Verdict::Faulty(r) => Drawn::Refused(r),
-        Verdict::Sound => {
-            let p = lift(x);
-            let q = lift(y);
-            Drawn::Done(invert_in(canvas, bytes, p, q, w, h, clip))
-        }
-    }
+    judge(canvas, bytes.len())?;
+    let p = lift(x);
+    let q = lift(y);
+    Ok(invert_in(canvas, bytes, p, q, w, h, clip))
 }

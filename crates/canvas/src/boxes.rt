@@ -7,7 +7,7 @@ ghost use Rattle.canvas.specs.Boxes.{edges};
 ghost use Rattle.canvas.specs.Call.{draw_rect, fill_rect, leaves, call};
 ghost use Rattle.canvas.specs.Walk.{lowered, work, Keeps, Ready, Did};
 
-use crate::faults::{Verdict, judge};
+use crate::faults::judge;
 use crate::plot::landed_more;
 use crate::span::{lift, overlap};
 use crate::{Clip, Drawn, Tally};
@@ -60,16 +60,12 @@ pub fn fill_rect(
 ) -> Drawn
     ensures { leaves result bytes.new ≡ call canvas (fill_rect x y w h color clip) bytes.old }
 {
-    match judge(canvas, bytes.len()) {
-        Verdict::Faulty(r) => Drawn::Refused(r),
-        Verdict::Sound => {
-            let ink = words::plot_ink(canvas.format, canvas.xor, color);
-            let p = lift(x);
-            let q = lift(y);
-            let t = fill_in(canvas, bytes, p, q, w, h, ink, clip, Tally { landed: 0 });
-            Drawn::Done(t)
-        }
-    }
+    judge(canvas, bytes.len())?;
+    let ink = words::plot_ink(canvas.format, canvas.xor, color);
+    let p = lift(x);
+    let q = lift(y);
+    let t = fill_in(canvas, bytes, p, q, w, h, ink, clip, Tally { landed: 0 });
+    Ok(t)
 }
 
 // How long an edge is between two corners.
@@ -165,14 +161,10 @@ pub fn draw_rect(
 ) -> Drawn
     ensures { leaves result bytes.new ≡ call canvas (draw_rect x y w h color clip) bytes.old }
 {
-    match judge(canvas, bytes.len()) {
-        Verdict::Faulty(r) => Drawn::Refused(r),
-        Verdict::Sound => {
-            let ink = words::plot_ink(canvas.format, canvas.xor, color);
-            let p = lift(x);
-            let q = lift(y);
-            let t = outline_in(canvas, bytes, p, q, w, h, ink, clip, Tally { landed: 0 });
-            Drawn::Done(t)
-        }
-    }
+    judge(canvas, bytes.len())?;
+    let ink = words::plot_ink(canvas.format, canvas.xor, color);
+    let p = lift(x);
+    let q = lift(y);
+    let t = outline_in(canvas, bytes, p, q, w, h, ink, clip, Tally { landed: 0 });
+    Ok(t)
 }

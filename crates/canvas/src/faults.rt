@@ -1,25 +1,9 @@
 // Which canvases are refused.
 ghost use Rattle.std.specs.Prelude.{◌≡◌, ◌≤◌, not, ◌||◌, ◌==◌, nat_lt};
-ghost use Rattle.canvas.specs.Faults.{or_else, verdict};
+ghost use Rattle.canvas.specs.Faults.{verdict};
 
 use crate::Refusal;
 use pixels::Canvas;
-
-#[derive(Clone, Copy)]
-pub enum Verdict {
-    Sound,
-    Faulty(Refusal),
-}
-
-// The first of two faults.
-pub fn or_else(f: Verdict, d: Verdict) -> Verdict
-    ensures { result ≡ or_else f d }
-{
-    match f {
-        Verdict::Sound => d,
-        Verdict::Faulty(r) => Verdict::Faulty(r),
-    }
-}
 
 // Whether a number is neither 1 nor 2; 0 wraps around.
 fn is_unruly(rule: u32) -> bool
@@ -45,29 +29,29 @@ fn is_off(row: u32, width: u32) -> bool
 
 // The first fault of a canvas with so many bytes. The length is asked before the row, and the row is named where both
 // are at fault.
-pub fn judge(canvas: Canvas, len: usize) -> Verdict
+pub fn judge(canvas: Canvas, len: usize) -> Result<(), Refusal>
     ensures { result ≡ verdict canvas len }
 {
     if 4 < canvas.format {
-        return Verdict::Faulty(Refusal::Format);
+        return Err(Refusal::Format);
     }
     if is_unruly(canvas.rule) {
-        return Verdict::Faulty(Refusal::Rule);
+        return Err(Refusal::Rule);
     }
     if is_large(canvas.width, canvas.height) {
-        return Verdict::Faulty(Refusal::Size);
+        return Err(Refusal::Size);
     }
     if !pixels::bytes::is_whole(canvas, len) {
         if canvas.row == canvas.width {
-            return Verdict::Faulty(Refusal::Length);
+            return Err(Refusal::Length);
         }
         if is_off(canvas.row, canvas.width) {
-            return Verdict::Faulty(Refusal::Row);
+            return Err(Refusal::Row);
         }
-        return Verdict::Faulty(Refusal::Length);
+        return Err(Refusal::Length);
     }
     if !is_off(canvas.row, canvas.width) {
-        return Verdict::Sound;
+        return Ok(());
     }
-    Verdict::Faulty(Refusal::Row)
+    Err(Refusal::Row)
 }

@@ -20,7 +20,6 @@ pub use boxes::{draw_rect, fill_rect};
 pub use lines::draw_line;
 pub use look::get_pixel;
 pub use plot::put_pixel;
-use words::Color;
 
 #[derive(Clone, Copy)]
 pub struct Clip {
@@ -31,7 +30,7 @@ pub struct Clip {
 }
 
 // Why a call is refused.
-#[derive(Clone, Copy)]
+#[derive(Clone, Copy, Debug, PartialEq, Eq)]
 pub enum Refusal {
     Format,
     Size,
@@ -50,19 +49,7 @@ pub struct Tally {
 }
 
 // What a drawing call answers.
-#[derive(Clone, Copy)]
-pub enum Drawn {
-    Refused(Refusal),
-    Done(Tally),
-}
-
-// What get_pixel answers.
-#[derive(Clone, Copy)]
-pub enum Pixel {
-    Refused(Refusal),
-    Nothing,
-    Of(Color),
-}
+pub type Drawn = Result<Tally, Refusal>;
 
 impl Refusal {
     // 01's number, and 02's.
@@ -82,25 +69,23 @@ impl Refusal {
     }
 }
 
-impl Drawn {
-    // 01's number: 0, or the refusal's.
-    pub fn status(self) -> u32
-        ensures { result ≡ status_of self }
-    {
-        match self {
-            Drawn::Refused(r) => r.number(),
-            Drawn::Done(_) => 0,
-        }
+// 01's number: 0, or the refusal's.
+pub fn status(drawn: Drawn) -> u32
+    ensures { result ≡ status_of drawn }
+{
+    match drawn {
+        Ok(_) => 0,
+        Err(r) => r.number(),
     }
+}
 
-    // The plots that landed.
-    pub fn count(self) -> u64
-        ensures { result ≡ count_of self }
-    {
-        match self {
-            Drawn::Refused(_) => 0,
-            Drawn::Done(t) => t.landed,
-        }
+// The plots that landed.
+pub fn count(drawn: Drawn) -> u64
+    ensures { result ≡ count_of drawn }
+{
+    match drawn {
+        Ok(t) => t.landed,
+        Err(_) => 0,
     }
 }
 

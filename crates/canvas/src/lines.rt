@@ -8,13 +8,13 @@ ghost use Rattle.canvas.specs.Call.{draw_line, leaves, call};
 ghost use Rattle.canvas.specs.Walk.{work, dabs, Did, Fields};
 ghost use Rattle.canvas.specs.Trail.{apart, way_of, pen_of, toward, across, along, next, ahead, trail, Goes, Steps, Sets};
 
-use crate::faults::{Verdict, judge};
+use crate::faults::judge;
 use crate::plot::dab;
 use crate::span::{lift, window};
 use crate::{Clip, Drawn, Tally};
 use pixels::Canvas;
 use pixels::rows::Span;
-use segments::{Clipped, Segment};
+use segments::Segment;
 use words::{Color, Ink};
 
 // Where a walk goes, lifted: its second end, how far that is from the first one, and which way.
@@ -190,8 +190,8 @@ pub(crate) fn line_in(
     ensures { Did canvas clip (inks (inked ink) (line canvas x1 y1 x2 y2)) (work b.old t) (work b.new result) }
 {
     match segments::clip_segment(x1, y1, x2, y2, canvas.width, canvas.height) {
-        Clipped::Nothing => t,
-        Clipped::Left(s) => segment_in(canvas, b, s, ink, clip, t),
+        None => t,
+        Some(s) => segment_in(canvas, b, s, ink, clip, t),
     }
 }
 
@@ -207,21 +207,17 @@ pub fn draw_line(
 ) -> Drawn
     ensures { leaves result bytes.new ≡ call canvas (draw_line x1 y1 x2 y2 color clip) bytes.old }
 {
-    match judge(canvas, bytes.len()) {
-        Verdict::Faulty(r) => Drawn::Refused(r),
-        Verdict::Sound => {
-            let ink = words::plot_ink(canvas.format, canvas.xor, color);
-            Drawn::Done(line_in(
-                canvas,
-                bytes,
-                x1,
-                y1,
-                x2,
-                y2,
-                ink,
-                clip,
-                Tally { landed: 0 },
-            ))
-        }
-    }
+    judge(canvas, bytes.len())?;
+    let ink = words::plot_ink(canvas.format, canvas.xor, color);
+    Ok(line_in(
+        canvas,
+        bytes,
+        x1,
+        y1,
+        x2,
+        y2,
+        ink,
+        clip,
+        Tally { landed: 0 },
+    ))
 }

@@ -6,7 +6,7 @@ ghost use Rattle.canvas.specs.Call.{put_pixel, leaves, call};
 ghost use Rattle.pixels.specs.Bytes.{size, Sized};
 ghost use Rattle.canvas.specs.Walk.{lowered, plus, work, covers, dabbed, Fields, Fits, Ready, Did};
 
-use crate::faults::{Verdict, judge};
+use crate::faults::judge;
 use crate::span::{lift, on_side};
 use crate::{Clip, Drawn, Tally};
 use pixels::Canvas;
@@ -105,14 +105,10 @@ pub fn put_pixel(
 ) -> Drawn
     ensures { leaves result bytes.new ≡ call canvas (put_pixel x y color clip) bytes.old }
 {
-    match judge(canvas, bytes.len()) {
-        Verdict::Faulty(r) => Drawn::Refused(r),
-        Verdict::Sound => {
-            let ink = words::plot_ink(canvas.format, canvas.xor, color);
-            let p = lift(x);
-            let q = lift(y);
-            let t = plot_at(canvas, bytes, p, q, ink, clip, Tally { landed: 0 });
-            Drawn::Done(t)
-        }
-    }
+    judge(canvas, bytes.len())?;
+    let ink = words::plot_ink(canvas.format, canvas.xor, color);
+    let p = lift(x);
+    let q = lift(y);
+    let t = plot_at(canvas, bytes, p, q, ink, clip, Tally { landed: 0 });
+    Ok(t)
 }

@@ -6,9 +6,9 @@ ghost use Rattle.segments.specs.Cut.{near, inside, kept, narrowed, parameters, e
 
 // What is left of a segment: its entry and exit parameters.
 #[derive(Clone, Copy)]
-pub enum Cut {
-    Part(f64, f64),
-    Nothing,
+struct Part {
+    enter: f64,
+    leave: f64,
 }
 
 #[derive(Clone, Copy)]
@@ -17,13 +17,6 @@ pub struct Segment {
     pub y1: i32,
     pub x2: i32,
     pub y2: i32,
-}
-
-// What is left of it, by its ends.
-#[derive(Clone, Copy)]
-pub enum Clipped {
-    Left(Segment),
-    Nothing,
 }
 
 // Whether a column or row is one of a side of n pixels, or of its margin.
@@ -49,54 +42,48 @@ fn is_inside(x: i32, y: i32, width: u32, height: u32) -> bool
 }
 
 // One side of the cut.
-fn narrow(c: Cut, p: f64, q: f64) -> Cut
-    ensures { result ≡ narrowed p q c }
+fn narrow(part: Part, p: f64, q: f64) -> Option<Part>
+    ensures { result ≡ narrowed p q (Some part) }
 {
-    match c {
-        Cut::Nothing => Cut::Nothing,
-        Cut::Part(t0, t1) => {
-            if p == 0.0 {
-                if q < 0.0 {
-                    return Cut::Nothing;
-                }
-                return Cut::Part(t0, t1);
-            }
-            let r = q / p;
-            if p < 0.0 {
-                if t0 < r {
-                    return Cut::Part(r, t1);
-                }
-                return Cut::Part(t0, t1);
-            }
-            if r < t1 {
-                return Cut::Part(t0, r);
-            }
-            Cut::Part(t0, t1)
+    if p == 0.0 {
+        if q < 0.0 {
+            return None;
         }
+        return Some(part);
     }
+    let r = q / p;
+    if p < 0.0 {
+        if part.enter < r {
+            return Some(Part { enter: r, ..part });
+        }
+        return Some(part);
+    }
+    if r < part.leave {
+        return Some(Part { leave: r, ..part });
+    }
+    Some(part)
 }
 
 // The cut by the left, the right, the top and the bottom side, in this order.
-fn parameters(x1: i32, y1: i32, x2: i32, y2: i32, width: u32, height: u32) -> Cut
+fn parameters(x1: i32, y1: i32, x2: i32, y2: i32, width: u32, height: u32) -> Option<Part>
     ensures { result ≡ parameters x1 y1 x2 y2 width height }
 {
     let fx = x1 as f64;
     let fy = y1 as f64;
     let dx = x2 as f64 - fx;
     let dy = y2 as f64 - fy;
-    let left = narrow(Cut::Part(0.0, 1.0), -dx, fx - -1.0);
-    let right = narrow(left, dx, width as f64 - fx);
-    let top = narrow(right, -dy, fy - -1.0);
-    let bottom = narrow(top, dy, height as f64 - fy);
-    match bottom {
-        Cut::Nothing => Cut::Nothing,
-        Cut::Part(t0, t1) => {
-            if t1 < t0 {
-                return Cut::Nothing;
-            }
-            Cut::Part(t0, t1)
-        }
+    let whole = Part {
+        enter: 0.0,
+        leave: 1.0,
+    };
+    let left = narrow(whole, -dx, fx - -1.0)?;
+    let right = narrow(left, dx, width as f64 - fx)?;
+    let top = narrow(right, -dy, fy - -1.0)?;
+    let bottom = narrow(top, dy, height as f64 - fy)?;
+    if bottom.leave < bottom.enter {
+        return None;
     }
+    Some(bottom)
 }
 
 // A new end: the first end plus the delta times its parameter, rounded.
@@ -118,19 +105,18 @@ fn is_kept(x1: i32, y1: i32, x2: i32, y2: i32, width: u32, height: u32) -> bool
     false
 }
 
-pub fn clip_segment(x1: i32, y1: i32, x2: i32, y2: i32, width: u32, height: u32) -> Clipped
+// What is left of a segment, by its ends.
+pub fn clip_segment(x1: i32, y1: i32, x2: i32, y2: i32, width: u32, height: u32) -> Option<Segment>
     ensures { result ≡ clip_segment x1 y1 x2 y2 width height }
 {
     if is_kept(x1, y1, x2, y2, width, height) {
-        return Clipped::Left(Segment { x1, y1, x2, y2 });
+        return Some(Segment { x1, y1, x2, y2 });
     }
-    match parameters(x1, y1, x2, y2, width, height) {
-        Cut::Nothing => Clipped::Nothing,
-        Cut::Part(t0, t1) => Clipped::Left(Segment {
-            x1: end_at(x1, x2, t0),
-            y1: end_at(y1, y2, t0),
-            x2: end_at(x1, x2, t1),
-            y2: end_at(y1, y2, t1),
-        }),
-    }
+    let part = parameters(x1, y1, x2, y2, width, height)?;
+    Some(Segment {
+        x1: end_at(x1, x2, part.enter),
+        y1: end_at(y1, y2, part.enter),
+        x2: end_at(x1, x2, part.leave),
+        y2: end_at(y1, y2, part.leave),
+    })
 }

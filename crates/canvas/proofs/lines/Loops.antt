@@ -1,11 +1,9 @@
 -- The walk's loop: what is left of its trail leads to the same end.
-use Rattle.std.proofs.Common.{◌≡◌, ℕ, zero, suc, ◌+◌, ◌<◌, ◌≤◌, cond, leb, List, [], length, ℤ, sym, refl, ap, ◌∙◌, arith, w32, SFits, to_z, of_z, le-leb}
+use Rattle.std.proofs.Common.{◌≡◌, ℕ, zero, suc, ◌+◌, ◌<◌, ◌≤◌, cond, leb, List, [], length, ℤ, sym, refl, ap, ◌∙◌, arith, w32, SFits, to_z, of_z, le-leb, Option, Some, None}
 use native.Mathlib.Decide.{dec_le}
 use borrow.Author.Tests.{lt-leb}
 use mir.ValLaws.{to_z-of_z}
 use Rattle.segments.specs.declared.Segment.{Segment}
-use Rattle.segments.specs.declared.Clipped.{Clipped}
-use Rattle.segments.specs.declared.Clipped.TheVariants.{Left, Nothing}
 use Rattle.segments.specs.Cut.{clip_segment}
 use Rattle.pixels.specs.declared.Canvas.{Canvas}
 use Rattle.canvas.specs.declared.Clip.{Clip}
@@ -69,20 +67,20 @@ module _ (s : Segment) (w : Way) (p : Pen) (e : w ≡ way_of s) (h : p ≡ pen_o
       let g : a' ≡ dabs v xs ys f (bresenham s) a = d ∙ ap (λ (ps : List Point). dabs v xs ys f ps a) (rw (e, h) k.path) in
       dabs_did i f (bresenham s) g
 
-module _ (v : Canvas) (x1 y1 x2 y2 : ℤ) (fx1 : SFits w32 x1) (fy1 : SFits w32 y1) (fx2 : SFits w32 x2) (fy2 : SFits w32 y2) (u : Clipped)
+module _ (v : Canvas) (x1 y1 x2 y2 : ℤ) (fx1 : SFits w32 x1) (fy1 : SFits w32 y1) (fx2 : SFits w32 x2) (fy2 : SFits w32 y2) (u : Option Segment)
     (e : u ≡ clip_segment (to_z w32 (of_z w32 x1)) (to_z w32 (of_z w32 y1)) (to_z w32 (of_z w32 x2)) (to_z w32 (of_z w32 y2)) v.width v.height) where
   is-between : between u ≡ line v x1 y1 x2 y2
   unfolding line
   is-between = ap between (rw (to_z-of_z w32 x1 fx1, to_z-of_z w32 y1 fy1, to_z-of_z w32 x2 fx2, to_z-of_z w32 y2 fy2) at e)
 
   module _ {c : Clip} (f : ℕ → ℕ) where
-    pub line-nothing : {a : Work} → u ≡ Nothing → Did v c (inks f (line v x1 y1 x2 y2)) a a
+    pub line-nothing : {a : Work} → u ≡ None → Did v c (inks f (line v x1 y1 x2 y2)) a a
     unfolding inks
     line-nothing h =
         let g : [] ≡ line v x1 y1 x2 y2 = ap between (sym h) ∙ is-between in
         rw (← g) did_none
 
-    pub line-left : (s : Segment) {a a' : Work} → u ≡ Left s → Did v c (inks f (bresenham s)) a a' → Did v c (inks f (line v x1 y1 x2 y2)) a a'
+    pub line-left : (s : Segment) {a a' : Work} → u ≡ Some s → Did v c (inks f (bresenham s)) a a' → Did v c (inks f (line v x1 y1 x2 y2)) a a'
     line-left s h d =
         let g : bresenham s ≡ line v x1 y1 x2 y2 = ap between (sym h) ∙ is-between in
         rw (← g) d

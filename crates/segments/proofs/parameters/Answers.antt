@@ -1,58 +1,52 @@
--- The four sides in their order.
+-- The four sides in their order; where one leaves nothing, nothing is left.
 use lib.Ieee.{of_bits}
-use mathlib.Core.Bool.{true, false}
-use mir.Syntax.{w32}
-use mir.Val.{to_z, of_z}
-use Rattle.segments.proofs.Sides.{four, arrived, is-nothing, is-part}
+use Rattle.segments.proofs.Sides.{still, cut_by}
 use Rattle.segments.proofs.parameters.Goals as goal
 
-pub returns-then-t1-t0 : goal.returns-then-t1-t0
+pub returns-in_err-left : goal.returns-in_err-left
 unfolding of_bits
-returns-then-t1-t0 c =
+returns-in_err-left c =
     let a = c.args in
     let z = c.ranges in
-    let l = c.narrow-left in
-    let r = c.narrow-right in
-    let t = c.narrow-top in
-    let b = c.narrow-bottom in
-    let x1 = to_z w32 (of_z w32 a.x1) in
-    let y1 = to_z w32 (of_z w32 a.y1) in
-    let x2 = to_z w32 (of_z w32 a.x2) in
-    let y2 = to_z w32 (of_z w32 a.y2) in
-    let sides = four x1 y1 x2 y2 a.width a.height l.result r.result t.result b.result l.ensures r.ensures t.ensures b.ensures in
-    let whole = arrived a.x1 a.y1 a.x2 a.y2 a.width a.height b.result z.x1 z.y1 z.x2 z.y2 sides in
-    is-part _ _ true b.result _ whole c.in-Part.is c.if-t1-t0.true
+    rw c.from_residual.ensures
+    (cut_by a.x1 a.y1 a.x2 a.y2 a.width a.height z.x1 z.y1 z.x2 z.y2 _ _ _ _ c.in_err-left.ensures (still _ _) (still _ _) (still _ _))
 
-pub returns-in-Nothing : goal.returns-in-Nothing
+pub returns-in_err-right : goal.returns-in_err-right
 unfolding of_bits
-returns-in-Nothing c =
+returns-in_err-right c =
     let a = c.args in
     let z = c.ranges in
-    let l = c.narrow-left in
-    let r = c.narrow-right in
-    let t = c.narrow-top in
-    let b = c.narrow-bottom in
-    let x1 = to_z w32 (of_z w32 a.x1) in
-    let y1 = to_z w32 (of_z w32 a.y1) in
-    let x2 = to_z w32 (of_z w32 a.x2) in
-    let y2 = to_z w32 (of_z w32 a.y2) in
-    let sides = four x1 y1 x2 y2 a.width a.height l.result r.result t.result b.result l.ensures r.ensures t.ensures b.ensures in
-    let whole = arrived a.x1 a.y1 a.x2 a.y2 a.width a.height b.result z.x1 z.y1 z.x2 z.y2 sides in
-    is-nothing b.result _ whole c.in-Nothing.is
+    rw c.from_residual-in_err-right.ensures
+    (cut_by a.x1 a.y1 a.x2 a.y2 a.width a.height z.x1 z.y1 z.x2 z.y2 _ _ _ _ c.in_ok-left.ensures c.in_err-right.ensures (still _ _) (still _ _))
 
-pub returns-else-t1-t0 : goal.returns-else-t1-t0
+pub returns-in_err-top : goal.returns-in_err-top
 unfolding of_bits
-returns-else-t1-t0 c =
+returns-in_err-top c =
     let a = c.args in
     let z = c.ranges in
-    let l = c.narrow-left in
-    let r = c.narrow-right in
-    let t = c.narrow-top in
-    let b = c.narrow-bottom in
-    let x1 = to_z w32 (of_z w32 a.x1) in
-    let y1 = to_z w32 (of_z w32 a.y1) in
-    let x2 = to_z w32 (of_z w32 a.x2) in
-    let y2 = to_z w32 (of_z w32 a.y2) in
-    let sides = four x1 y1 x2 y2 a.width a.height l.result r.result t.result b.result l.ensures r.ensures t.ensures b.ensures in
-    let whole = arrived a.x1 a.y1 a.x2 a.y2 a.width a.height b.result z.x1 z.y1 z.x2 z.y2 sides in
-    is-part _ _ false b.result _ whole c.in-Part.is c.if-t1-t0.false
+    rw c.from_residual-in_err-top.ensures
+    (cut_by a.x1 a.y1 a.x2 a.y2 a.width a.height z.x1 z.y1 z.x2 z.y2 _ _ _ _ c.in_ok-left.ensures c.in_ok-right.ensures c.in_err-top.ensures (still _ _))
+
+pub returns-in_err-bottom : goal.returns-in_err-bottom
+unfolding of_bits
+returns-in_err-bottom c =
+    let a = c.args in
+    let z = c.ranges in
+    rw c.from_residual-in_err-bottom.ensures
+    (cut_by a.x1 a.y1 a.x2 a.y2 a.width a.height z.x1 z.y1 z.x2 z.y2 _ _ _ _ c.in_ok-left.ensures c.in_ok-right.ensures c.in_ok-top.ensures c.in_err-bottom.ensures)
+
+pub returns-then-bottom : goal.returns-then-bottom
+unfolding of_bits
+returns-then-bottom c =
+    let a = c.args in
+    let z = c.ranges in
+    rw c.if-bottom.true at
+    (cut_by a.x1 a.y1 a.x2 a.y2 a.width a.height z.x1 z.y1 z.x2 z.y2 _ _ _ _ c.in_ok-left.ensures c.in_ok-right.ensures c.in_ok-top.ensures c.in_ok-bottom.ensures)
+
+pub returns : goal.returns
+unfolding of_bits
+returns c =
+    let a = c.args in
+    let z = c.ranges in
+    rw c.if-bottom.false at
+    (cut_by a.x1 a.y1 a.x2 a.y2 a.width a.height z.x1 z.y1 z.x2 z.y2 _ _ _ _ c.in_ok-left.ensures c.in_ok-right.ensures c.in_ok-top.ensures c.in_ok-bottom.ensures)

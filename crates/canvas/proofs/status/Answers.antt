@@ -1,0 +1,12 @@
+-- By the answer's two cases.
+use Rattle.std.proofs.Common.{refl}
+use Rattle.canvas.specs.Call.{status_of}
+use Rattle.canvas.proofs.status.Goals as goal
+
+pub returns-in-Ok : goal.returns-in-Ok
+unfolding status_of
+returns-in-Ok c = rw c.in-Ok.is refl
+
+pub returns-in-Err : goal.returns-in-Err
+unfolding status_of
+returns-in-Err c = rw c.in-Err.is c.number.ensures

@@ -1,2 +1,0 @@
--- What the proofs of the cuts use.
-pub mod Picks
