@@ -1,13 +1,11 @@
 -- What the contracts of the inner functions of images and copies speak of; no public contract cites this file.
-use Rattle.std.specs.Prelude.{◌≡◌, List, ℕ, ◌+◌, ◌-◌, ◌*◌, ◌≤◌, ◌<◌, length, get_or}
+use Rattle.std.specs.Prelude.{◌≡◌, List, ℕ, ◌+◌, ◌-◌, ◌<◌, length, get_or}
 use Rattle.words.specs.Format.{Format, argb}
 use Rattle.words.specs.Word.{to_color, seen}
 use Rattle.blending.specs.Blend.{blend_word}
 use Rattle.pixels.specs.declared.Canvas.{Canvas}
-use Rattle.pixels.specs.declared.rows.Span.{Span}
 use Rattle.pixels.specs.Bytes.{form, load_at}
 use Rattle.canvas.specs.Call.{carried}
-use Rattle.canvas.specs.Walk.{Sourced}
 
 -- What reading sees of each word.
 pub record SeenAs (f : Format) (ws ws' : List ℕ) : Type 0 where
@@ -17,18 +15,6 @@ pub record SeenAs (f : Format) (ws ws' : List ℕ) : Type 0 where
 -- What is seen, in these bytes, of the pixel as far from sx and sy as a pixel is from x and y.
 abbrev pub shifted : Canvas → List ℕ → ℕ → ℕ → ℕ → ℕ → ℕ → ℕ → ℕ → ℕ
 shifted v b x y sx sy i j w = seen (form v) (load_at v b (sx + (i - x)) (sy + (j - y)))
-
--- A box of n pixels to be copied: it is on the canvas, and so is its source, which starts at u and t where the box starts at p and q.
-pub record Copying (v : Canvas) (xs ys : Span) (n p q u t : ℕ) : Type 0 where
-  pub across : xs.from ≤ xs.to
-  pub down : ys.from ≤ ys.to
-  pub wide : xs.to ≤ v.width
-  pub high : ys.to ≤ v.height
-  pub columns : Sourced p u v.width xs.from xs.to
-  pub rows : Sourced q t v.height ys.from ys.to
-  pub left : u < 4294967296
-  pub top : t < 4294967296
-  pub number : n ≡ (ys.to - ys.from) * (xs.to - xs.from)
 
 -- What drawing makes of the word at a pixel, with the source's pixel as far from sx and sy as the pixel is from x and y.
 abbrev pub overlaid : Canvas → Canvas → List ℕ → ℕ → ℕ → ℕ → ℕ → ℕ → ℕ → ℕ → ℕ

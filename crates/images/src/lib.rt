@@ -2,6 +2,7 @@
 #![tactic(auto)]
 
 mod copy;
+mod parts;
 mod pictures;
 
 pub use copy::{copy_area, copy_counted};

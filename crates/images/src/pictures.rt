@@ -1,22 +1,20 @@
 // Drawing an image: its colours and the words below them go through chunks of 64 words.
-ghost use Rattle.std.specs.Prelude.{◌≡◌, ◌+◌, ◌-◌, ◌*◌, ◌≤◌, ◌<◌, length};
+ghost use Rattle.std.specs.Prelude.{◌≡◌, ◌+◌, ◌≤◌, ◌<◌};
 ghost use Rattle.blending.specs.Loops.{blended};
 ghost use Rattle.pixels.specs.Bytes.{form, Sized};
-ghost use Rattle.canvas.specs.Faults.{verdict, as_source};
 ghost use Rattle.pixels.specs.Hits.{paint};
+ghost use Rattle.pixels.specs.Rows.{run, marks};
+ghost use Rattle.canvas.specs.Faults.{verdict, as_source};
 ghost use Rattle.canvas.specs.Call.{carried, leaves, call};
 ghost use Rattle.canvas.specs.Call.{draw as draw_call};
-ghost use Rattle.pixels.specs.Rows.{run, marks, field};
 ghost use Rattle.images.specs.Chunks.{overlaid, Solid};
-ghost use Rattle.canvas.specs.Walk.{Sourced};
+ghost use Rattle.images.specs.Parts.{Placed, filled};
 
-use crate::copy::fewer;
-use canvas::faults::{Verdict, judge};
-use canvas::span::{lift, shown_in};
+use crate::parts::{Part, shown};
+use canvas::faults::judge;
 use canvas::{Clip, Drawn, Refusal, Tally};
 use pixels::Canvas;
 use pixels::chunks::{lay, take};
-use pixels::rows::Span;
 
 // What drawing colours leaves of words. Those of an image that keeps no alpha are stored.
 fn compose(canvas: Canvas, source: Canvas, cs: &[u32], ws: &mut [u32])
@@ -32,7 +30,7 @@ fn compose(canvas: Canvas, source: Canvas, cs: &[u32], ws: &mut [u32])
     blending::loops::blend_words(canvas.format, canvas.rule, canvas.xor, cs, ws);
 }
 
-// As many pixels as the chunks hold, of the image's row sy from sx on, over row y from x on.
+// n pixels, no more than the chunks hold, of the image's row sy from sx on, over row y from x on.
 fn draw_chunk(
     canvas: Canvas,
     b: &mut [u8],
@@ -42,12 +40,21 @@ fn draw_chunk(
     image: &[u8],
     sy: usize,
     sx: usize,
-    cs: &mut [u32],
-    ws: &mut [u32],
+    n: usize,
+    cs: &mut [u32; 64],
+    ws: &mut [u32; 64],
 )
-    requires { (Sized canvas b.old) × ((Sized source image.now) × ((x + length ws.old ≤ canvas.width) × ((sx + length cs.old ≤ source.width) × ((y < canvas.height) × ((sy < source.height) × (length cs.old ≡ length ws.old)))))) }
-    ensures { b.new ≡ paint canvas (marks (overlaid canvas source image.now x y sx sy) (run x (length ws.old)) y) b.old }
+    requires sized { Sized canvas b.old }
+    requires source_sized { Sized source image.now }
+    requires few { n ≤ 64 }
+    requires wide { x + n ≤ canvas.width }
+    requires high { y < canvas.height }
+    requires columns { sx + n ≤ source.width }
+    requires rows { sy < source.height }
+    ensures { b.new ≡ paint canvas (marks (overlaid canvas source image.now x y sx sy) (run x n) y) b.old }
 {
+    let cs = &mut cs[..n];
+    let ws = &mut ws[..n];
     take(source, image, sy, sx, cs);
     blending::loops::read_colors(source.format, cs);
     take(canvas, b, y, x, ws);
@@ -66,107 +73,55 @@ fn draw_row(
     sy: usize,
     sx: usize,
     n: usize,
-    cs: &mut [u32],
-    ws: &mut [u32],
+    cs: &mut [u32; 64],
+    ws: &mut [u32; 64],
 )
-    requires { (Sized canvas b.old) × ((Sized source image.now) × ((x + n ≤ canvas.width) × ((sx + n ≤ source.width) × ((y < canvas.height) × ((sy < source.height) × ((length cs.old ≡ 64) × (length ws.old ≡ 64))))))) }
+    requires sized { Sized canvas b.old }
+    requires source_sized { Sized source image.now }
+    requires wide { x + n ≤ canvas.width }
+    requires high { y < canvas.height }
+    requires columns { sx + n ≤ source.width }
+    requires rows { sy < source.height }
     ensures { b.new ≡ paint canvas (marks (overlaid canvas source image.now x y sx sy) (run x n) y) b.old }
 {
-    let mut k = 0;
-    while k < n {
-        let m = fewer(n - k, 64);
-        draw_chunk(
-            canvas,
-            b,
-            y,
-            x + k,
-            source,
-            image,
-            sy,
-            sx + k,
-            &mut cs[..m],
-            &mut ws[..m],
-        );
-        k = k + m;
+    for k in (0..n).step_by(64) {
+        let m = (n - k).min(64);
+        draw_chunk(canvas, b, y, x + k, source, image, sy, sx + k, m, cs, ws);
     }
 }
 
-// A box of rows.
-fn draw_box(
-    canvas: Canvas,
-    b: &mut [u8],
-    xs: Span,
-    ys: Span,
-    source: Canvas,
-    image: &[u8],
-    sx: usize,
-    sy: usize,
-)
-    requires { (Sized canvas b.old) × ((Sized source image.now) × ((xs.from + (xs.to - xs.from) ≤ canvas.width) × ((ys.from + (ys.to - ys.from) ≤ canvas.height) × ((sx + (xs.to - xs.from) ≤ source.width) × ((sy + (ys.to - ys.from) ≤ source.height) × ((xs.from ≤ xs.to) × (ys.from ≤ ys.to))))))) }
-    ensures { b.new ≡ paint canvas (field (overlaid canvas source image.now xs.from ys.from sx sy) (run xs.from (xs.to - xs.from)) (run ys.from (ys.to - ys.from))) b.old }
+// A part, row by row.
+fn draw_part(canvas: Canvas, b: &mut [u8], part: Part, source: Canvas, image: &[u8])
+    requires sized { Sized canvas b.old }
+    requires source_sized { Sized source image.now }
+    requires placed { Placed canvas source part }
+    ensures { b.new ≡ paint canvas (filled (overlaid canvas source image.now part.x part.y part.sx part.sy) part) b.old }
 {
     let mut cs = [0u32; 64];
     let mut ws = [0u32; 64];
-    let x = xs.from;
-    let y0 = ys.from;
-    let y1 = ys.to;
-    let n = xs.to - xs.from;
-    let mut y = y0;
-    while y < y1 {
+    let Part { x, y, w, h, sx, sy } = part;
+    for k in 0..h {
         draw_row(
             canvas,
             b,
-            y,
+            y + k,
             x,
             source,
             image,
-            sy + (y - y0),
+            sy + k,
             sx,
-            n,
+            w,
             &mut cs,
             &mut ws,
         );
-        y = y + 1;
     }
 }
 
-// The drawing of what is shown, if anything is, and how many pixels land.
-fn draw_in(
-    canvas: Canvas,
-    b: &mut [u8],
-    xs: Span,
-    ys: Span,
-    source: Canvas,
-    image: &[u8],
-    p: u64,
-    q: u64,
-    u: u64,
-    v: u64,
-) -> u64
-    requires { (Sized canvas b.old) × ((Sized source image.now) × ((xs.from ≤ xs.to) × ((ys.from ≤ ys.to) × ((xs.to ≤ canvas.width) × ((ys.to ≤ canvas.height) × ((Sourced p u source.width xs.from xs.to) × ((Sourced q v source.height ys.from ys.to) × ((u < 4294967296) × (v < 4294967296))))))))) }
-    ensures { (b.new ≡ paint canvas (field (overlaid canvas source image.now xs.from ys.from (xs.from + u - p) (ys.from + v - q)) (run xs.from (xs.to - xs.from)) (run ys.from (ys.to - ys.from))) b.old) × (result ≡ (ys.to - ys.from) * (xs.to - xs.from)) }
-{
-    if xs.from == xs.to {
-        return 0;
-    }
-    if ys.from == ys.to {
-        return 0;
-    }
-    let sx = xs.from as u64 + u - p;
-    let sy = ys.from as u64 + v - q;
-    draw_box(canvas, b, xs, ys, source, image, sx as usize, sy as usize);
-    ((ys.to - ys.from) * (xs.to - xs.from)) as u64
-}
-
-// The first fault of a source.
-fn judge_source(source: Canvas, len: usize) -> Verdict
+// The first fault of a source, as a call names it.
+fn judge_source(source: Canvas, len: usize) -> Result<(), Refusal>
     ensures { result ≡ as_source (verdict source len) }
 {
-    let s = judge(source, len);
-    match s {
-        Verdict::Sound => Verdict::Sound,
-        Verdict::Faulty(_) => Verdict::Faulty(Refusal::Source),
-    }
+    judge(source, len).map_err(|_| Refusal::Source)
 }
 
 // A box of an image, over what is there.
@@ -185,20 +140,11 @@ pub fn draw(
 ) -> Drawn
     ensures { leaves result bytes.new ≡ call canvas (draw_call dx dy w h source image.now sx sy clip) bytes.old }
 {
-    match judge(canvas, bytes.len()) {
-        Verdict::Faulty(r) => Drawn::Refused(r),
-        Verdict::Sound => match judge_source(source, image.len()) {
-            Verdict::Faulty(r) => Drawn::Refused(r),
-            Verdict::Sound => {
-                let p = lift(dx);
-                let q = lift(dy);
-                let u = lift(sx);
-                let v = lift(sy);
-                let xs = shown_in(p, u, w, source.width, clip.x, clip.width, canvas.width);
-                let ys = shown_in(q, v, h, source.height, clip.y, clip.height, canvas.height);
-                let n = draw_in(canvas, bytes, xs, ys, source, image, p, q, u, v);
-                Drawn::Done(Tally { landed: n })
-            }
-        },
-    }
+    judge(canvas, bytes.len())?;
+    judge_source(source, image.len())?;
+    let part = shown(canvas, source, dx, dy, sx, sy, w, h, clip);
+    draw_part(canvas, bytes, part, source, image);
+    Ok(Tally {
+        landed: part.pixels(),
+    })
 }

@@ -2,29 +2,31 @@
 use mathlib.Core.Path.{◌≡◌, refl, sym, ap, ap₂, ◌∙◌}
 use mathlib.Core.Bool.{Bool, true, false, cond}
 use mathlib.Core.List.{List, [], ◌∷◌, append-nil, flat_map}
-use Prim.Native.Nat.{ℕ, zero, suc, ◌+◌, ◌-◌, ◌*◌, ◌%◌, ◌≤◌, ◌<◌}
+use Prim.Native.Nat.{ℕ, zero, suc, ◌+◌, ◌-◌, ◌%◌, ◌≤◌, ◌<◌}
 use native.Mathlib.Omega.{arith}
-use native.Mathlib.Nat.{mul-zero, zero-mul, mul-pos}
 use native.Mathlib.Decide.{ℕ_discrete, dec_le}
 use borrow.Author.Tests.{le-leb, lt-leb}
 use lib.Dec.{leb}
+use lib.IntN.{ℤ}
 use lib.ListN.{length, get_or, set, length-set}
 use lib.Seq.{get_or-set_same, get_or-set_other}
+use Rattle.std.proofs.Common.{Result, Ok, Err, IsErrAnd}
 use Rattle.words.specs.Format.{Format, rgb332, rgb565, rgb8, argb, abgr, none, format_of, range}
 use Rattle.words.specs.Word.{from_color, to_color, seen}
 use Rattle.words.proofs.Reading.{read-store}
 use Rattle.pixels.specs.declared.Canvas.{Canvas}
-use Rattle.pixels.specs.declared.rows.Span.{Span}
-use Rattle.pixels.specs.Bytes.{form, load_at}
+use Rattle.pixels.specs.Bytes.{form, load_at, Sized}
 use Rattle.pixels.specs.Hits.{Hit, paint}
 use Rattle.pixels.specs.Rows.{run, mark, marks, field, laid}
 use Rattle.pixels.proofs.chunks.Chunks.{Taken}
-use Rattle.canvas.specs.declared.Drawn.{Drawn}
+use Rattle.canvas.specs.declared.Clip.{Clip}
+use Rattle.canvas.specs.declared.Refusal.{Refusal}
+use Rattle.canvas.specs.declared.Tally.{Tally}
 use Rattle.canvas.specs.Call.{Outcome, count_of, leaves}
-use Rattle.canvas.specs.Walk.{lowered, Sourced}
-use Rattle.images.specs.Chunks.{SeenAs, Copying, shifted}
+use Rattle.images.specs.declared.parts.Part.{Part}
+use Rattle.images.specs.Chunks.{SeenAs, shifted}
+use Rattle.images.specs.Parts.{filled, Shows}
 use Rattle.images.specs.Areas.{copied, counted}
-use Rattle.canvas.proofs.span.Sources.{source_at}
 use Rattle.pixels.proofs.bytes.Cells.{Bytes}
 use Rattle.pixels.proofs.bytes.Pixels.{load_lt}
 use Rattle.pixels.proofs.Orders.{Screen, All, By}
@@ -120,7 +122,7 @@ seen-lt none w l = l
 shifted-lt : (v : Canvas) (b : List ℕ) → Bytes b → (x y sx sy i j w : ℕ) → w < range (form v) → shifted v b x y sx sy i j w < range (form v)
 shifted-lt v b o x y sx sy i j w l = seen-lt (form v) _ (load_lt v b (sx + (i - x)) (sy + (j - y)) o)
 
-one_row : (g : ℕ → List Hit) (y : ℕ) → g y ≡ flat_map g (run y 1)
+pub one_row : (g : ℕ → List Hit) (y : ℕ) → g y ≡ flat_map g (run y 1)
 unfolding flat_map run
 one_row g y = sym (append-nil (g y))
 
@@ -299,58 +301,29 @@ way_of x sx t e = go (dec_le x sx)
     go (yes h) = rw (e ∙ le-leb x sx h) (onward h)
     go (no h) = rw (e ∙ lt-leb x sx (omega arith)) (backward (omega arith))
 
--- ---- the box of what is shown
+-- bytes that a canvas takes
+pub screen_of : {v : Canvas} {b : List ℕ} → Sized v b → ((i : ℕ) → get_or b i 0 < 256) → Screen v b
+screen_of s o = record { long = s.long; bytes = record { byte = o } }
 
-no_columns : (f : ℕ → ℕ → ℕ → ℕ) (x : ℕ) (ys : List ℕ) → field f (run x 0) ys ≡ []
-unfolding flat_map run
-no_columns f x [] = refl
-no_columns f x (y ∷ ys) = no_columns f x ys
-
-pub none-across : (f : ℕ → ℕ → ℕ → ℕ) (x0 x1 : ℕ) (ys : List ℕ) → x0 ≡ x1 → field f (run x0 (x1 - x0)) ys ≡ []
-none-across f x0 x1 ys e = let z : x1 - x0 ≡ 0 = omega arith in ap (λ (n : ℕ). field f (run x0 n) ys) z ∙ no_columns f x0 ys
-
-pub none-down : (f : ℕ → ℕ → ℕ → ℕ) (y0 y1 : ℕ) (xs : List ℕ) → y0 ≡ y1 → field f xs (run y0 (y1 - y0)) ≡ []
-unfolding flat_map run
-none-down f y0 y1 xs e = let z : y1 - y0 ≡ 0 = omega arith in ap (λ (n : ℕ). field f xs (run y0 n)) z
-
-pub less_than : {a b : ℕ} → a ≤ b → (a ≡ b → ⊥) → a < b
-less_than {a} {b} l n = omega (arith, n)
-
--- a box of no pixels has no hits, and one of some has columns and rows
-pub none_of : (f : ℕ → ℕ → ℕ → ℕ) (x y m k : ℕ) → k * m ≡ 0 → field f (run x m) (run y k) ≡ []
-unfolding flat_map run
-none_of f x y m zero e = refl
-none_of f x y zero (suc k) e = no_columns f x (run y (suc k))
-none_of f x y (suc m) (suc k) e = absurd (omega (arith, mul-pos {m = suc k} {n = suc m} (omega arith) (omega arith)))
-
-module _ {v : Canvas} {xs ys : Span} {n p q u t : ℕ} (box : Copying v xs ys n p q u t) (some : n ≡ 0 → ⊥) where
-  pub some-columns : xs.from < xs.to
-  some-columns =
-      let k = ys.to - ys.from in
-      less_than box.across (λ h. let d : xs.to - xs.from ≡ 0 = omega (arith, h) in some (box.number ∙ ap (λ (m : ℕ). k * m) d ∙ mul-zero k))
-
-  pub some-rows : ys.from < ys.to
-  some-rows =
-      let m = xs.to - xs.from in
-      less_than box.down (λ h. let d : ys.to - ys.from ≡ 0 = omega (arith, h) in some (box.number ∙ ap (λ (k : ℕ). k * m) d ∙ zero-mul m))
-
-pub paint-nothing : (v : Canvas) (hs : List Hit) (b : List ℕ) → hs ≡ [] → b ≡ paint v hs b
-unfolding paint
-paint-nothing v hs b e = rw e refl
+-- ---- what is shown
 
 -- what is copied, through the colour, is what is seen
-pub copies : (v : Canvas) (b : List ℕ) → Bytes b → (p q u t x0 x1 y0 y1 m n : ℕ) → Sourced p u m x0 x1 → Sourced q t n y0 y1
-    → field (copied v b (lowered p) (lowered q) (lowered u) (lowered t)) (run x0 (x1 - x0)) (run y0 (y1 - y0))
-    ≡ field (shifted v b x0 y0 (x0 + u - p) (y0 + t - q)) (run x0 (x1 - x0)) (run y0 (y1 - y0))
-copies v b o p q u t x0 x1 y0 y1 m n sx sy =
-    field_alike (copied v b (lowered p) (lowered q) (lowered u) (lowered t)) (shifted v b x0 y0 (x0 + u - p) (y0 + t - q)) x0 (x1 - x0) y0 (y1 - y0) one
+pub copies : (v : Canvas) (b : List ℕ) → Bytes b → (dx dy sx sy : ℤ) (w h : ℕ) (c : Clip) (p : Part) → Shows v v dx dy sx sy w h c p
+    → filled (copied v b dx dy sx sy) p ≡ filled (shifted v b p.x p.y p.sx p.sy) p
+copies v b o dx dy sx sy w h c p s = field_alike (copied v b dx dy sx sy) (shifted v b p.x p.y p.sx p.sy) p.x p.w p.y p.h one
   where
-    one : (i j : ℕ) → x0 ≤ i → i < x0 + (x1 - x0) → y0 ≤ j → j < y0 + (y1 - y0) → copied v b (lowered p) (lowered q) (lowered u) (lowered t) i j ≡ shifted v b x0 y0 (x0 + u - p) (y0 + t - q) i j
-    one i j a c d e =
+    one : (i j : ℕ) → p.x ≤ i → i < p.x + p.w → p.y ≤ j → j < p.y + p.h → copied v b dx dy sx sy i j ≡ shifted v b p.x p.y p.sx p.sy i j
+    one i j k l m n =
         let still : ℕ → ℕ → ℕ = λ z w. z in
-        ap still (ap (λ (w : ℕ). from_color (form v) (to_color (form v) w)) (ap₂ (load_at v b) (source_at p u m x0 x1 i sx a c) (source_at q t n y0 y1 j sy d e))
-        ∙ read-store (form v) _ (load_lt v b (x0 + u - p + (i - x0)) (y0 + t - q + (j - y0)) o))
+        ap still (ap (λ (w : ℕ). from_color (form v) (to_color (form v) w)) (ap₂ (load_at v b) (s.column i k l) (s.row j m n))
+        ∙ read-store (form v) _ (load_lt v b (p.sx + (i - p.x)) (p.sy + (j - p.y)) o))
 
 -- what is answered and left, with the count beside it
-pub with_count : {o : Outcome} (d : Drawn) (b n : List ℕ) → leaves d b ≡ o → n ≡ count_of d ∷ [] → ◌≡◌ {A = Outcome × List ℕ} (leaves d b, n) (counted o)
+pub with_count : {o : Outcome} (d : Result Tally Refusal) (b n : List ℕ) → leaves d b ≡ o → n ≡ count_of d ∷ [] → ◌≡◌ {A = Outcome × List ℕ} (leaves d b, n) (counted o)
 with_count d b n e h = rw h (ap counted e)
+
+-- a refusal counts none
+pub none-counted : (d : Result Tally Refusal) (r : Refusal) → IsErrAnd d (λ e. e ≡ r) → 0 ∷ [] ≡ count_of d ∷ []
+unfolding count_of
+none-counted (Ok t) r k = absurd k
+none-counted (Err e) r k = refl

@@ -4,6 +4,7 @@ use mathlib.Core.Bool.{true, false}
 use mathlib.Core.List.{List, [], ◌∷◌, ◌++◌, flat_map}
 use Prim.Native.Nat.{ℕ, zero, suc, ◌+◌, ◌-◌, ◌≤◌, ◌<◌}
 use native.Mathlib.Omega.{arith}
+use lib.IntN.{ℤ}
 use lib.ListN.{length, get_or}
 use Rattle.words.specs.declared.Color.{Color}
 use Rattle.words.specs.Format.{Format, format_of, argb}
@@ -16,18 +17,20 @@ use Rattle.blending.proofs.Laws.{opaque_stores}
 use Rattle.blending.proofs.Runs.{argb-at, argb-length, blended_at, blended-length}
 use Rattle.pixels.specs.declared.Canvas.{Canvas}
 use Rattle.pixels.specs.Bytes.{form, load_at, store_at}
+use Rattle.canvas.specs.declared.Clip.{Clip}
 use Rattle.canvas.specs.Plot.{Plot, plot, Dye, Dot, dip}
 use Rattle.pixels.specs.Hits.{Hit, touch, paint}
 use Rattle.pixels.specs.Rows.{run, mark, marks, field, laid}
 use Rattle.pixels.proofs.chunks.Chunks.{Taken}
 use Rattle.canvas.specs.Boxes.{spots, picture}
 use Rattle.canvas.specs.Call.{source_color, carried}
-use Rattle.canvas.specs.Walk.{lowered, Sourced}
+use Rattle.images.specs.declared.parts.Part.{Part}
 use Rattle.images.specs.Chunks.{overlaid, Solid}
+use Rattle.images.specs.Parts.{filled, Shows}
 use Rattle.pixels.proofs.bytes.Pixels.{load_other}
-use Rattle.canvas.proofs.span.Sources.{source_at}
 use Rattle.pixels.proofs.Hits.{paint-length}
 use Rattle.pixels.proofs.rows.Rows.{each_same}
+use Rattle.images.proofs.copy.Moves.{one_row}
 use Rattle.pixels.proofs.rows.Parts.{join_after, marks_alike, field_alike}
 
 -- ---- a row whose words were worked out before any was written
@@ -136,14 +139,24 @@ over_all {v} {s} {image} {b₀} {x} {y} {sx} {sy} d l = d.same ∙ ap (λ (j : �
 pub over-length : {v s : Canvas} {image b₀ : List ℕ} {x y sx sy n k : ℕ} {b : List ℕ} → Overlaid v s image b₀ x y sx sy n k b → length b ≡ length b₀
 over-length {v} {b₀ = b₀} d = ap length d.same ∙ paint-length v _ b₀
 
--- a row of the box, seen from the box's corner
-pub row_over : (v s : Canvas) (image b b' : List ℕ) (x y0 sx sy n y : ℕ) → y0 ≤ y
-    → b' ≡ paint v (marks (overlaid v s image x y sx (sy + (y - y0))) (run x n) y) b → b' ≡ paint v (marks (overlaid v s image x y0 sx sy) (run x n) y) b
-row_over v s image b b' x y0 sx sy n y l e = e ∙ ap (λ (hs : List Hit). paint v hs b) (marks_alike _ (overlaid v s image x y0 sx sy) y x n one)
+-- no row, and one row more
+pub no-rows : (v : Canvas) (f : ℕ → ℕ → ℕ → ℕ) (xs b : List ℕ) (y : ℕ) → b ≡ paint v (field f xs (run y 0)) b
+unfolding run flat_map paint
+no-rows v f xs b y = refl
+
+pub rows_over : (v s : Canvas) (image b₀ b b' : List ℕ) (x y sx sy w k : ℕ) → b ≡ paint v (field (overlaid v s image x y sx sy) (run x w) (run y k)) b₀
+    → b' ≡ paint v (marks (overlaid v s image x (y + k) sx (sy + k)) (run x w) (y + k)) b
+    → b' ≡ paint v (field (overlaid v s image x y sx sy) (run x w) (run y (k + 1))) b₀
+rows_over v s image b₀ b b' x y sx sy w k d e =
+    e ∙ ap₂ (λ (hs : List Hit) (c : List ℕ). paint v hs c) (marks_alike _ (overlaid v s image x y sx sy) (y + k) x w one ∙ one_row row (y + k)) d
+    ∙ join_after v row b₀ y k 1
   where
-    one : (i : ℕ) → x ≤ i → i < x + n → overlaid v s image x y sx (sy + (y - y0)) i y ≡ overlaid v s image x y0 sx sy i y
+    row : ℕ → List Hit
+    row = marks (overlaid v s image x y sx sy) (run x w)
+
+    one : (i : ℕ) → x ≤ i → i < x + w → overlaid v s image x (y + k) sx (sy + k) i (y + k) ≡ overlaid v s image x y sx sy i (y + k)
     one i p q =
-        let z : sy + (y - y0) + (y - y) ≡ sy + (y - y0) = omega arith in
+        let z : sy + k + (y + k - (y + k)) ≡ sy + (y + k - y) = omega arith in
         let made : ℕ → ℕ → ℕ = λ t. blend_word (form v) (carried v) v.xor (to_color (form s) (load_at s image (sx + (i - x)) t)) in
         ap made z
 
@@ -163,15 +176,13 @@ pub picture-spots : (g : Dye → ℕ → ℕ) (d : ℕ → ℕ → Dye) (xs ys :
 unfolding picture spots dip
 picture-spots g d xs ys = dip_each g _ ys ∙ each_same _ _ ys (λ j. dip_each g _ xs)
 
-pub draws_over : (v s : Canvas) (image : List ℕ) (p q u t x0 x1 y0 y1 m n : ℕ) → Sourced p u m x0 x1 → Sourced q t n y0 y1
-    → field (λ i j. blend_word (form v) (carried v) v.xor (source_color s image (lowered p) (lowered q) (lowered u) (lowered t) i j)) (run x0 (x1 - x0)) (run y0 (y1 - y0))
-    ≡ field (overlaid v s image x0 y0 (x0 + u - p) (y0 + t - q)) (run x0 (x1 - x0)) (run y0 (y1 - y0))
-draws_over v s image p q u t x0 x1 y0 y1 m n sx sy =
-    field_alike (λ i j. blend_word (form v) (carried v) v.xor (source_color s image (lowered p) (lowered q) (lowered u) (lowered t) i j))
-    (overlaid v s image x0 y0 (x0 + u - p) (y0 + t - q)) x0 (x1 - x0) y0 (y1 - y0) one
+pub draws_over : (v s : Canvas) (image : List ℕ) (dx dy sx sy : ℤ) (w h : ℕ) (c : Clip) (p : Part) → Shows v s dx dy sx sy w h c p
+    → filled (λ i j. blend_word (form v) (carried v) v.xor (source_color s image dx dy sx sy i j)) p ≡ filled (overlaid v s image p.x p.y p.sx p.sy) p
+draws_over v s image dx dy sx sy w h c p t =
+    field_alike (λ i j. blend_word (form v) (carried v) v.xor (source_color s image dx dy sx sy i j)) (overlaid v s image p.x p.y p.sx p.sy) p.x p.w p.y p.h one
   where
-    one : (i j : ℕ) → x0 ≤ i → i < x0 + (x1 - x0) → y0 ≤ j → j < y0 + (y1 - y0)
-        → blend_word (form v) (carried v) v.xor (source_color s image (lowered p) (lowered q) (lowered u) (lowered t) i j) ≡ overlaid v s image x0 y0 (x0 + u - p) (y0 + t - q) i j
-    one i j a c d e =
-        let made : ℕ → ℕ → ℕ = λ w. blend_word (form v) (carried v) v.xor (to_color (form s) w) in
-        ap made (ap₂ (load_at s image) (source_at p u m x0 x1 i sx a c) (source_at q t n y0 y1 j sy d e))
+    one : (i j : ℕ) → p.x ≤ i → i < p.x + p.w → p.y ≤ j → j < p.y + p.h
+        → blend_word (form v) (carried v) v.xor (source_color s image dx dy sx sy i j) ≡ overlaid v s image p.x p.y p.sx p.sy i j
+    one i j k l m n =
+        let made : ℕ → ℕ → ℕ = λ a. blend_word (form v) (carried v) v.xor (to_color (form s) a) in
+        ap made (ap₂ (load_at s image) (t.column i k l) (t.row j m n))

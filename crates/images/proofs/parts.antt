@@ -1,0 +1,3 @@
+-- What is shown of a box.
+pub mod Corners
+pub mod Landed
