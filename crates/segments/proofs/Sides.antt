@@ -47,7 +47,8 @@ unfolding parameters
 four x1 y1 x2 y2 width height a b c d ea eb ec ed =
     let dx = sub binary64 (float x2) (float x1) in
     let dy = sub binary64 (float y2) (float y1) in
-    ap forward (ed ∙ ap (narrowed dy (sub binary64 (float (pos height)) (float y1))) (ec ∙ ap (narrowed (neg dy) (sub binary64 (float y1) (neg one))) (eb ∙ ap (narrowed dx (sub binary64 (float (pos width)) (float x1))) ea)))
+    ap forward (ed ∙ ap (narrowed dy (sub binary64 (float (pos height)) (float y1)))
+    (ec ∙ ap (narrowed (neg dy) (sub binary64 (float y1) (neg one))) (eb ∙ ap (narrowed dx (sub binary64 (float (pos width)) (float x1))) ea)))
 
 -- from ends that arrive as `to_z w (of_z w x)`
 module _ (x1 y1 x2 y2 : ℤ) (width height : ℕ) (fx1 : SFits w32 x1) (fy1 : SFits w32 y1) (fx2 : SFits w32 x2) (fy2 : SFits w32 y2) (a b c d : Option Part) where
