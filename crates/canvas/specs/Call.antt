@@ -77,20 +77,20 @@ pub record Outcome : Type 0 where
 abbrev pub outcome : ℕ → ℕ → List ℕ → Outcome
 outcome s n b = record { status = s; count = n; bytes = b }
 
--- What a drawing call answers.
-abbrev pub Drawn : Type 0
-Drawn = Result Tally Refusal
+-- What a drawing call answers: what landed, or why it is refused.
+abbrev pub Landed : Type 0
+Landed = Result Tally Refusal
 
 -- 01's number and count of each answer.
-unfoldable pub status_of : Drawn → ℕ
+unfoldable pub status_of : Landed → ℕ
 status_of (Err r) = number r
 status_of (Ok t) = 0
 
-unfoldable pub count_of : Drawn → ℕ
+unfoldable pub count_of : Landed → ℕ
 count_of (Err r) = 0
 count_of (Ok t) = t.landed
 
-abbrev pub leaves : Drawn → List ℕ → Outcome
+abbrev pub leaves : Landed → List ℕ → Outcome
 leaves d b = outcome (status_of d) (count_of d) b
 
 -- "0 | accepted | result, count"; a refusal: "count 0, bytes as before"

@@ -13,7 +13,7 @@ use Rattle.words.specs.declared.Color.{Color}
 use Rattle.pixels.specs.declared.Canvas.{Canvas}
 use Rattle.canvas.specs.declared.Clip.{Clip}
 use Rattle.canvas.specs.declared.Refusal.{Refusal}
-use Rattle.canvas.specs.Call.{Drawn, leaves, status_of, count_of}
+use Rattle.canvas.specs.Call.{Landed, leaves, status_of, count_of}
 use Rattle.canvas.specs.Look.{reads, pixel_at, Reading}
 use Rattle.lbmp.specs.Call.{outcome, reading, decoding}
 use Rattle.lbmp.specs.Call.{Reading as Judgement}
@@ -30,7 +30,7 @@ use Rattle.replies.specs.Calls.{drawn_by}
 use Rattle.replies.specs.Answers.{answer, told, counted, drew, drawn, looked, decoded, decoded_by, bitmap_of, Response, respond_by, respond_to}
 
 -- The colour and the clip are those of the line, and the hash is that of what the call leaves.
-pub drew-is : {a : Answer} {c : Color} {k : Clip} {at x : ℕ} {b' : List ℕ} (o : ℕ) (n : List ℕ) (v : Canvas) (image b : List ℕ) (d : Drawn)
+pub drew-is : {a : Answer} {c : Color} {k : Clip} {at x : ℕ} {b' : List ℕ} (o : ℕ) (n : List ℕ) (v : Canvas) (image b : List ℕ) (d : Landed)
     → at ≡ clip_start o → c ≡ color_at n (at - 4) → k ≡ clip_at n at → leaves d b' ≡ drawn_by o n v c k image b → x ≡ hash_of b'
     → a ≡ told o (status_of d) (count_of d) x → (a, b') ≡ drew o (drawn o n v image b)
 unfolding drawn counted

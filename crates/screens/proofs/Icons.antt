@@ -17,7 +17,7 @@ use Rattle.pixels.proofs.bytes.Cells.{Bytes}
 use Rattle.pixels.proofs.bytes.Tails.{even_extent}
 use Rattle.canvas.specs.declared.Clip.{Clip}
 use Rattle.canvas.specs.Faults.{format_fault, rule_fault, size_fault, length_fault, or_else, first, verdict, as_source}
-use Rattle.canvas.specs.Call.{Outcome, Drawn, status_of}
+use Rattle.canvas.specs.Call.{Outcome, Landed, status_of}
 use Rattle.canvas.specs.Call.{draw as draw_call}
 use Rattle.canvas.proofs.Accepted.{accepted}
 use Rattle.canvas.proofs.Tails.{even_verdict}
@@ -53,7 +53,7 @@ no_fault f i x o e =
 -- from that part on a canvas that is not refused is accepted. `Bytes` is asked as in Runs.
 pub icon_drawn : (κs κs' : _) (file part : Bor (List ℕ)) (i : Icon) (s s' : _)
     → Bytes file.now → decode_res.Post κs (file, tt) (Ok i) s → icon_pixels.Post κs' (file, tt) part s'
-    → {x : Bool} {v : Canvas} {dx dy sx sy : ℤ} {w h : ℕ} {k : Clip} {d : Drawn} {b b' : List ℕ} → verdict v (length b) ≡ Ok tt
+    → {x : Bool} {v : Canvas} {dx dy sx sy : ℤ} {w h : ℕ} {k : Clip} {d : Landed} {b b' : List ℕ} → verdict v (length b) ≡ Ok tt
     → Made v (draw_call dx dy w h (as_canvas x i) part.now sx sy k) b d b' → status_of d ≡ 0
 icon_drawn κs κs' file part i s s' o p q {x} {v} {dx} {dy} {sx} {sy} {w} {h} {k} {d} {b} e m =
     let n : verdict (as_canvas x i) (length part.now) ≡ Ok tt = ap (λ (c : List ℕ). verdict (as_canvas x i) (length c)) q ∙ no_fault file.now i x o (sym p) in

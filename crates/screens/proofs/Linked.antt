@@ -9,7 +9,7 @@ use denote.MutBor.{MutBor}
 use Rattle.words.specs.Format.{argb}
 use Rattle.words.proofs.Reading.{read_channels}
 use Rattle.pixels.specs.declared.Canvas.{Canvas}
-use Rattle.canvas.specs.Call.{Call, put_pixel, draw_line, draw_rect, fill_rect, invert_rect, Outcome, Drawn, status_of, count_of, call}
+use Rattle.canvas.specs.Call.{Call, put_pixel, draw_line, draw_rect, fill_rect, invert_rect, Outcome, Landed, status_of, count_of, call}
 use Rattle.canvas.specs.Call.{draw as draw_call}
 use Rattle.ovals.specs.Call.{draw_arc, fill_arc, draw_round_rect, fill_round_rect}
 use Rattle.canvas.proofs.Reverse.{Colored}
@@ -102,7 +102,7 @@ unfolding gives
 left m = ap (λ (t : ℕ × (List ℕ × List ℕ)). t.1.1) (made_is m)
 
 -- how the answer of a call is told
-abbrev pub tell : Drawn → ℕ × List ℕ
+abbrev pub tell : Landed → ℕ × List ℕ
 tell d = (status_of d, drawn_of (count_of d))
 
 told : {v : Canvas} {k : Call} {b b' : List ℕ} {a : ℕ × List ℕ} → Made v k b a b' → a ≡ tell (answer v (length b) k)

@@ -23,7 +23,7 @@ use Rattle.pixels.specs.Bytes.{form, load_at, Tail, On}
 use Rattle.pixels.specs.Hits.{Hit, paint}
 use Rattle.canvas.specs.Faults.{Verdict, rule_fault, or_else, verdict}
 use Rattle.canvas.specs.Plot.{hits}
-use Rattle.canvas.specs.Call.{Call, clip_of, fault_of, plots, Outcome, Drawn, status_of, count_of, leaves, ruled, drawing, call}
+use Rattle.canvas.specs.Call.{Call, clip_of, fault_of, plots, Outcome, Landed, status_of, count_of, leaves, ruled, drawing, call}
 use Rattle.images.specs.Areas.{copy_area}
 use Rattle.canvas.specs.Calls.{after, landings, stains, struck, those, inverts}
 use Rattle.pixels.proofs.bytes.Cells.{Bytes}
@@ -46,11 +46,11 @@ pub record Ran {n : ℕ} (ps : List (ParamKind n)) (z : ResultKind n) (Post : Ou
 
 -- ---- the answer to a call on n bytes
 
-abbrev said : Verdict → ℕ → Drawn
+abbrev said : Verdict → ℕ → Landed
 said (Ok u) t = Ok (record { landed = t })
 said (Err r) t = Err r
 
-abbrev pub answer : Canvas → ℕ → Call → Drawn
+abbrev pub answer : Canvas → ℕ → Call → Landed
 answer v n k = said (or_else (verdict v n) (fault_of k)) (length (hits v (clip_of k) (plots v k)))
 
 answered : (f : Verdict) (t : ℕ) (p b : List ℕ) → ruled f t p b ≡ leaves (said f t) (ruled f t p b).bytes
@@ -95,7 +95,7 @@ copy v k b = copy_area v k.dx k.dy k.sx k.sy k.w k.h k.clip b
 -- `Copied` is the same of area copy, which is no call that a second one takes away.
 pub record Maker : Type 1 where
   pub Answer : Type 0
-  pub tell : Drawn → Answer
+  pub tell : Landed → Answer
   pub Made : Canvas → Call → List ℕ → Answer → List ℕ → Type 0
   pub leaving : {v : Canvas} {k : Call} {b b' : List ℕ} {a : Answer} → Made v k b a b' → b' ≡ (call v k b).bytes
   pub telling : {v : Canvas} {k : Call} {b b' : List ℕ} {a : Answer} → Made v k b a b' → a ≡ tell (answer v (length b) k)

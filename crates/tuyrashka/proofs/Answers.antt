@@ -12,13 +12,13 @@ use Rattle.words.specs.declared.Color.{Color}
 use Rattle.pixels.specs.declared.Canvas.{Canvas}
 use Rattle.canvas.specs.declared.Clip.{Clip}
 use Rattle.canvas.specs.declared.Refusal.{Refusal}
-use Rattle.canvas.specs.Call.{Call, Outcome, Drawn, status_of, count_of, leaves, call}
+use Rattle.canvas.specs.Call.{Call, Outcome, Landed, status_of, count_of, leaves, call}
 use Rattle.canvas.specs.Look.{reads, pixel_at}
 use Rattle.images.specs.Areas.{counted}
 use Rattle.tuyrashka.specs.Exported.{color_of, drawn_of, gives, tells}
 
 -- a call of four signed numbers (one of two gives them twice) under a clip, whose outcome is a definition's
-pub answers : {b' n : List ℕ} {v v' : Canvas} {x y sx sy : ℤ} {s : ℕ} {z z' : Clip} (d : Drawn) (g : Canvas → ℤ → ℤ → ℤ → ℤ → Clip → Outcome)
+pub answers : {b' n : List ℕ} {v v' : Canvas} {x y sx sy : ℤ} {s : ℕ} {z z' : Clip} (d : Landed) (g : Canvas → ℤ → ℤ → ℤ → ℤ → Clip → Outcome)
     → SFits w32 x → SFits w32 y → SFits w32 sx → SFits w32 sy → v' ≡ v → z' ≡ z → (s ≡ status_of d) × (n ≡ drawn_of (count_of d))
     → leaves d b' ≡ g v' (to_z w32 (of_z w32 x)) (to_z w32 (of_z w32 y)) (to_z w32 (of_z w32 sx)) (to_z w32 (of_z w32 sy)) z'
     → ◌≡◌ {A = ℕ × (List ℕ × List ℕ)} (s, (n, b')) (gives (g v x y sx sy z))
@@ -28,13 +28,13 @@ answers {b'} {n} {v} {v'} {x} {y} {sx} {sy} {s} {z} {z'} d g fx fy fsx fsy ev ez
     rw (e.0, e.1) (ap gives h')
 
 -- an outcome with its count beside it
-pub counts : {o : Outcome} (d : Drawn) (b n : List ℕ) → ◌≡◌ {A = Outcome × List ℕ} (leaves d b, n) (counted o) → (leaves d b ≡ o) × (n ≡ drawn_of (count_of d))
+pub counts : {o : Outcome} (d : Landed) (b n : List ℕ) → ◌≡◌ {A = Outcome × List ℕ} (leaves d b, n) (counted o) → (leaves d b ≡ o) × (n ≡ drawn_of (count_of d))
 counts d b n e =
     let l = ap (λ (t : Outcome × List ℕ). t.0) e in
     (l, ap (λ (t : Outcome × List ℕ). t.1) e ∙ sym (ap (λ (o : Outcome). drawn_of o.count) l))
 
 -- a drawing call of a colour
-pub exports : {b' n : List ℕ} {v v' : Canvas} {x y sx sy : ℤ} {s : ℕ} {z z' : Clip} {c : Color} (w : ℕ) (b : List ℕ) (d : Drawn) (k : ℤ → ℤ → ℤ → ℤ → Color → Clip → Call)
+pub exports : {b' n : List ℕ} {v v' : Canvas} {x y sx sy : ℤ} {s : ℕ} {z z' : Clip} {c : Color} (w : ℕ) (b : List ℕ) (d : Landed) (k : ℤ → ℤ → ℤ → ℤ → Color → Clip → Call)
     → SFits w32 x → SFits w32 y → SFits w32 sx → SFits w32 sy → v' ≡ v → z' ≡ z → c ≡ color_of w → (s ≡ status_of d) × (n ≡ drawn_of (count_of d))
     → leaves d b' ≡ call v' (k (to_z w32 (of_z w32 x)) (to_z w32 (of_z w32 y)) (to_z w32 (of_z w32 sx)) (to_z w32 (of_z w32 sy)) c z') b
     → ◌≡◌ {A = ℕ × (List ℕ × List ℕ)} (s, (n, b')) (gives (call v (k x y sx sy (color_of w) z) b))
