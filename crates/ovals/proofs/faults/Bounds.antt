@@ -30,10 +30,10 @@ pub arc_of : (x y : ℤ) (w h : ℕ) (start arc : ℤ) (d : Verdict) → SFits w
 arc_of x y w h start arc d sx sy ss sa e = rw (to_z-of_z w32 x sx, to_z-of_z w32 y sy, to_z-of_z w32 start ss, to_z-of_z w32 arc sa) at e
 
 -- a first fault, as `?` hands it on
-pub hands : (d : Verdict) {f own : Verdict} {r : Refusal} → IsErrAnd d (λ e. e ≡ r) → Err r ≡ f → d ≡ or_else f own
+pub hands : (d own : Verdict) {f : Verdict} {r : Refusal} → IsErrAnd d (λ e. e ≡ r) → Err r ≡ f → d ≡ or_else f own
 unfolding or_else
-hands (Ok u) k h = absurd k
-hands (Err e) k h = rw (← h, k) refl
+hands (Ok u) own k h = absurd k
+hands (Err e) own k h = rw (← h, k) refl
 
 -- ---- a box without a fault
 

@@ -10,7 +10,7 @@ pub returns-in_err-angle_fault : goal.returns-in_err-angle_fault
 unfolding arc_fault
 returns-in_err-angle_fault c =
     let f = c.ranges in
-    hands c.from_residual.result {f = angle_fault c.args.start c.args.arc} c.from_residual.ensures.1
+    hands c.from_residual.result _ {f = angle_fault c.args.start c.args.arc} c.from_residual.ensures.1
     (rw (to_z-of_z w32 c.args.start f.start, to_z-of_z w32 c.args.arc f.arc) at c.in_err-angle_fault.ensures)
 
 pub returns : goal.returns
