@@ -1,14 +1,14 @@
 -- A colour scaled with no test of alpha: at 0 it flips nothing, at 255 it is the colour. So XOR needs no branch where alpha is not kept.
 use mathlib.Core.Path.{◌≡◌, refl, sym, ap, ◌∙◌}
 use mathlib.Core.Bool.{Bool, true, false, cond, true≢false, ◌||◌}
-use Prim.Native.Nat.{ℕ, zero, suc, ◌+◌, ◌*◌, ◌%◌, ◌≤◌}
+use Prim.Native.Nat.{ℕ, ◌+◌, ◌*◌, ◌%◌}
 use native.Mathlib.Nat.{mod-eq_of_lt}
 use native.Mathlib.Omega.{arith}
 use lib.Dec.{T, eqb, eqb→eq}
 use lib.Bits.{bit_xor, xor_mod, xor_zero_r}
 use borrow.Author.Tests.{eqb-true, eqb-false, eq-eqb, ne_eqb}
 use Rattle.words.specs.declared.Color.{Color}
-use Rattle.words.specs.Format.{Format, rgb332, rgb565, rgb8, argb, abgr, none, format_of}
+use Rattle.words.specs.Format.{Format, rgb332, rgb565, rgb8, argb, abgr, none}
 use Rattle.words.specs.Word.{color, from_color}
 use Rattle.words.specs.Ink.{keeps_alpha, bare, xor_color, plot_word}
 use Rattle.words.proofs.Laws.{Channels, bare_fits}
@@ -102,10 +102,3 @@ zero-top r g b = omega arith
 pub as_rgb8 : (c : Color) → from_color rgb8 (faint c) ≡ from_color argb (faint c)
 unfolding faint from_color
 as_rgb8 c = zero-top (part c.a c.r) (part c.a c.g) (part c.a c.b)
-
-pub no_alpha : (n : ℕ) → n ≤ 2 → keeps_alpha (format_of n) ≡ false
-unfolding keeps_alpha format_of
-no_alpha zero h = refl
-no_alpha (suc zero) h = refl
-no_alpha (suc (suc zero)) h = refl
-no_alpha (suc (suc (suc n))) h = absurd (omega arith)

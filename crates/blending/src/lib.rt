@@ -25,18 +25,14 @@ pub(crate) fn part_of(a: u8, c: u8) -> u8
 pub fn scaled_by_alpha(color: Color) -> Color
     ensures { result ≡ scaled color }
 {
-    let a = color.a;
-    if a == 0 {
-        return color;
-    }
-    if a == 255 {
-        return color;
-    }
-    Color {
-        a,
-        r: part_of(a, color.r),
-        g: part_of(a, color.g),
-        b: part_of(a, color.b),
+    match color.a {
+        0 | 255 => color,
+        a => Color {
+            a,
+            r: part_of(a, color.r),
+            g: part_of(a, color.g),
+            b: part_of(a, color.b),
+        },
     }
 }
 

@@ -14,6 +14,16 @@ use Rattle.words.proofs.level6_of.Reads as level6_of
 use Rattle.words.proofs.xor_ink.Reads as xor_ink
 use Rattle.words.proofs.plot_ink.Reads as plot-ink
 use Rattle.words.proofs.invert_ink.Reads as invert-ink
+use Rattle.words.proofs.layout.Rgb332Layout.word.Reads as rgb332_word
+use Rattle.words.proofs.layout.Rgb332Layout.color.Reads as rgb332_color
+use Rattle.words.proofs.layout.Rgb565Layout.word.Reads as rgb565_word
+use Rattle.words.proofs.layout.Rgb565Layout.color.Reads as rgb565_color
+use Rattle.words.proofs.layout.Rgb8Layout.word.Reads as rgb8_word
+use Rattle.words.proofs.layout.Rgb8Layout.color.Reads as rgb8_color
+use Rattle.words.proofs.layout.ArgbLayout.word.Reads as argb_word
+use Rattle.words.proofs.layout.ArgbLayout.color.Reads as argb_color
+use Rattle.words.proofs.layout.AbgrLayout.word.Reads as abgr_word
+use Rattle.words.proofs.layout.AbgrLayout.color.Reads as abgr_color
 
 on_determined : (κs : _) (a : _) (s s' : _) (r r' : _) → on.Post κs a r s → on.Post κs a r' s' → r ≡ r'
 on_determined κs a s s' r r' p q = p ∙ sym q
@@ -56,3 +66,33 @@ plot_ink_determined κs a s s' r r' p q = p ∙ sym q
 
 invert_ink_determined : (κs : _) (a : _) (s s' : _) (r r' : _) → invert-ink.Post κs a r s → invert-ink.Post κs a r' s' → r ≡ r'
 invert_ink_determined κs a s s' r r' p q = p ∙ sym q
+
+rgb332_word_determined : (κs : _) (a : _) (s s' : _) (r r' : _) → rgb332_word.Post κs a r s → rgb332_word.Post κs a r' s' → r ≡ r'
+rgb332_word_determined κs a s s' r r' p q = p ∙ sym q
+
+rgb332_color_determined : (κs : _) (a : _) (s s' : _) (r r' : _) → rgb332_color.Post κs a r s → rgb332_color.Post κs a r' s' → r ≡ r'
+rgb332_color_determined κs a s s' r r' p q = p ∙ sym q
+
+rgb565_word_determined : (κs : _) (a : _) (s s' : _) (r r' : _) → rgb565_word.Post κs a r s → rgb565_word.Post κs a r' s' → r ≡ r'
+rgb565_word_determined κs a s s' r r' p q = p ∙ sym q
+
+rgb565_color_determined : (κs : _) (a : _) (s s' : _) (r r' : _) → rgb565_color.Post κs a r s → rgb565_color.Post κs a r' s' → r ≡ r'
+rgb565_color_determined κs a s s' r r' p q = p ∙ sym q
+
+rgb8_word_determined : (κs : _) (a : _) (s s' : _) (r r' : _) → rgb8_word.Post κs a r s → rgb8_word.Post κs a r' s' → r ≡ r'
+rgb8_word_determined κs a s s' r r' p q = p ∙ sym q
+
+rgb8_color_determined : (κs : _) (a : _) (s s' : _) (r r' : _) → rgb8_color.Post κs a r s → rgb8_color.Post κs a r' s' → r ≡ r'
+rgb8_color_determined κs a s s' r r' p q = p ∙ sym q
+
+argb_word_determined : (κs : _) (a : _) (s s' : _) (r r' : _) → argb_word.Post κs a r s → argb_word.Post κs a r' s' → r ≡ r'
+argb_word_determined κs a s s' r r' p q = p ∙ sym q
+
+argb_color_determined : (κs : _) (a : _) (s s' : _) (r r' : _) → argb_color.Post κs a r s → argb_color.Post κs a r' s' → r ≡ r'
+argb_color_determined κs a s s' r r' p q = p ∙ sym q
+
+abgr_word_determined : (κs : _) (a : _) (s s' : _) (r r' : _) → abgr_word.Post κs a r s → abgr_word.Post κs a r' s' → r ≡ r'
+abgr_word_determined κs a s s' r r' p q = p ∙ sym q
+
+abgr_color_determined : (κs : _) (a : _) (s s' : _) (r r' : _) → abgr_color.Post κs a r s → abgr_color.Post κs a r' s' → r ≡ r'
+abgr_color_determined κs a s s' r r' p q = p ∙ sym q

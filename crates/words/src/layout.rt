@@ -92,11 +92,11 @@ impl Layout for Abgr {
     ghost form = { abgr };
 
     fn word(color: Color) -> u32 {
-        u32::from_be_bytes([color.a, color.b, color.g, color.r])
+        u32::from_le_bytes([color.r, color.g, color.b, color.a])
     }
 
     fn color(raw: u32) -> Color {
-        let [a, b, g, r] = raw.to_be_bytes();
+        let [r, g, b, a] = raw.to_le_bytes();
         Color { a, r, g, b }
     }
 }

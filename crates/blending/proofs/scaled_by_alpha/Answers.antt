@@ -1,18 +1,17 @@
 -- `scaled_by_alpha` meets its contract, by its tests.
-use borrow.Author.Tests.{eq-eqb, ne_eqb}
+use mathlib.Core.Path.{refl}
+use Rattle.std.proofs.Common.{inl, inr, rules}
+use borrow.Author.Tests.{ne_eqb}
 use Rattle.blending.specs.Blend.{scaled}
 use Rattle.blending.proofs.scaled_by_alpha.Goals as goal
 
-pub returns-then-a-eq0 : goal.returns-then-a-eq0
+pub returns-in-0 : goal.returns-in-0
 unfolding scaled
-returns-then-a-eq0 c = rw (eq-eqb _ _ c.if-a-eq0.true)
+returns-in-0 c = elim c.in-0.is [
+  | inl e ↦ rw e refl
+  | inr e ↦ rw e refl
+]
 
-pub returns-then-a : goal.returns-then-a
+pub returns-in_default : goal.returns-in_default
 unfolding scaled
-returns-then-a c = rw (ne_eqb _ _ c.if-a-eq0.false, eq-eqb _ _ c.if-a.true)
-
-pub returns : goal.returns
-unfolding scaled
-returns c =
-    rw (ne_eqb _ _ c.if-a-eq0.false, ne_eqb _ _ c.if-a.false)
-    (cc)
+returns-in_default c = rw (ne_eqb c.args.color.a 0 (search rules), ne_eqb c.args.color.a 255 (search rules)) cc

@@ -1,6 +1,5 @@
 -- `faint_word` meets its contract, which says the same.
-use mathlib.Core.Path.{ap, ◌∙◌}
-use Rattle.words.specs.Word.{from_color, to_color}
+use Rattle.words.specs.Word.{to_color}
 use Rattle.blending.specs.Inner.{faint}
 use Rattle.blending.proofs.drawn.faint_word.Goals as goal
 

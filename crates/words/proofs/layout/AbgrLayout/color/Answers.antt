@@ -1,8 +1,8 @@
--- `Abgr::color` meets its contract: the bytes of the word, the highest first.
+-- `Abgr::color` meets its contract: the bytes of the word, the lowest first.
 use mathlib.Core.Path.{refl}
 use Rattle.words.specs.Word.{to_color}
 use Rattle.words.proofs.layout.AbgrLayout.color.Goals as goal
 
 pub returns : goal.returns
 unfolding to_color
-returns c = rw c.to_be_bytes.ensures refl
+returns c = rw c.to_le_bytes.ensures refl
