@@ -81,7 +81,9 @@ fn up_to_16(n: u32) -> u32
     16
 }
 
-// The plots of a stroke of so many steps, the first and the last included, 16 at a time.
+// The plots of a stroke of so many steps, the first and the last included, 16 at a time. Taken into its caller, its loops have
+// fewer registers, and a plot takes four instructions more.
+#[inline(never)]
 fn stroke_steps(
     canvas: Canvas,
     b: &mut [u8],
