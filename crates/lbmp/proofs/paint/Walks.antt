@@ -46,12 +46,6 @@ rows_all f w h y l e a b =
     let z : y ≡ h = omega arith in
     e ∙ ap (λ (n : ℕ). swept f 0 n l) (ap (λ (k : ℕ). k * w) z ∙ mul_comm h w)
 
--- a row more
-pub row_turn : (f : ℕ → ℕ → ℕ) (w y : ℕ) (l : List ℕ) {l' l'' : List ℕ} → l' ≡ swept f 0 (y * w) l → l'' ≡ swept f (y * w) w l' → l'' ≡ swept f 0 ((y + 1) * w) l
-row_turn f w y l {l'} {l''} e g =
-    g ∙ ap (swept f (y * w) w) e ∙ ap (λ (i : ℕ). swept f i w (swept f 0 (y * w) l)) (sym (zero-add (y * w))) ∙ swept_on f 0 (y * w) w l
-    ∙ ap (λ (n : ℕ). swept f 0 n l) (omega (arith, add-mul y 1 w, one-mul w))
-
 -- ---- what a walk leaves at each place
 
 module _ (f : ℕ → ℕ → ℕ) where
