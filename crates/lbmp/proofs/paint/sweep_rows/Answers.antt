@@ -3,10 +3,10 @@ use mathlib.Core.Path.{◌≡◌, ap, ◌∙◌}
 use mathlib.Core.List.{List}
 use Prim.Native.Nat.{ℕ, ◌+◌, ◌*◌}
 use native.Mathlib.Omega.{arith}
-use native.Mathlib.Nat.{mul_comm, zero-mul, add-zero, add-mul, one-mul}
+use native.Mathlib.Nat.{add-mul, one-mul}
 use Rattle.std.proofs.Common.{rules}
 use Rattle.lbmp.specs.Walk.{swept}
-use Rattle.lbmp.proofs.paint.Walks.{flat-turn, rows_none, rows_all}
+use Rattle.lbmp.proofs.paint.Walks.{swept-turn, rows_none}
 use Rattle.lbmp.proofs.paint.sweep_rows.Goals as goal
 
 far : (f : ℕ → ℕ → ℕ) (l : List ℕ) {m : List ℕ} (a b : ℕ) → m ≡ swept f 0 a l → a ≡ b → m ≡ swept f 0 b l
@@ -24,7 +24,7 @@ loop-x-preserved g c = λ f m.
     let y = c.loop-y.y in
     let x = c.loop-x.x in
     far f c.args.out.now (y * w + x + 1) (y * w + (x + 1))
-    (flat-turn f (y * w + x) c.word.result c.args.out.now (c.loop-x.invariant f m) (m x y _ c.word.result (omega arith) (omega arith) (search rules) c.word.ensures)) (omega arith)
+    (swept-turn f (y * w + x) c.word.result c.args.out.now (c.loop-x.invariant f m) (m x y _ c.word.result (omega arith) (omega arith) (search rules) c.word.ensures)) (omega arith)
 
 pub loop-y-preserved : goal.loop-y-preserved
 loop-y-preserved g c = λ f m.
