@@ -1,5 +1,5 @@
 -- What inner contracts cite: a walk over words, and what a sound file has.
-use Rattle.std.specs.Prelude.{List, None, ◌≡◌, ℕ, zero, suc, ◌+◌, ◌*◌, ◌%◌, ◌≤◌, ◌<◌, get_or, set}
+use Rattle.std.specs.Prelude.{List, None, ◌≡◌, ℕ, zero, suc, ◌+◌, ◌*◌, ◌/◌, ◌%◌, ◌^◌, ◌≤◌, ◌<◌, get_or, set}
 use Rattle.words.specs.declared.Color.{Color}
 use Rattle.words.specs.Format.{argb}
 use Rattle.words.specs.Word.{from_color}
@@ -23,6 +23,10 @@ veiled (suc b) v = v % 16777216
 
 unfoldable pub veil : List ℕ → ℕ → ℕ → ℕ → ℕ
 veil m w i v = veiled (plane_at m w i) v
+
+-- Whatever a call may give at the place of a pixel's byte, its bit and the word there is what f makes of the pixel and the word.
+abbrev pub Makes : (ℕ → ℕ → ℕ → ℕ → Type 0) → ℕ → ℕ → (ℕ → ℕ → ℕ) → Type 0
+Makes gives w h f = (x y v r : ℕ) → x < w → y < h → v < 2 ^ 32 → gives (y / 8 * w + x) (y % 8) v r → r ≡ f (y * w + x) v
 
 -- What the fields of a header that is not refused are.
 pub record Fair (h : Header) : Type 0 where

@@ -1,5 +1,6 @@
 // Which files are refused: the tests in their order.
 #![tactic(auto, unfolding(crate::specs::Faults::area_fault, crate::specs::Faults::twice_fault, crate::specs::Faults::field_fault, crate::specs::Faults::planes_fault, crate::specs::Faults::bytes_fault, crate::specs::Faults::verdict, crate::specs::Faults::short_fault, crate::specs::Faults::or_else))]
+
 ghost use Rattle.std.specs.Prelude.{◌≡◌, ◌*◌, ◌≤◌, Some};
 ghost use Rattle.lbmp.specs.File.{kind_of};
 ghost use Rattle.lbmp.specs.Faults.{area_fault, twice_fault, field_fault, planes_fault, bytes_fault, header_verdict, verdict};

@@ -1,5 +1,6 @@
 // The header of a file, and the parts that follow it.
 #![tactic(auto, unfolding(crate::specs::Plane::plane_size, crate::specs::File::header_of, crate::specs::File::kind_of, crate::specs::File::expected_size, crate::specs::File::image_size, crate::specs::File::mask_size))]
+
 ghost use Rattle.std.specs.Prelude.{◌≡◌, ◌+◌, ◌*◌, ◌≤◌, ◌<◌, length, Some};
 ghost use Rattle.lbmp.specs.Plane.{plane_size};
 ghost use Rattle.lbmp.specs.File.{header_of, kind_of, expected_size, pixel_size, mask_size, pixel_bytes, mask_bytes};

@@ -1,5 +1,5 @@
 // Writing the words of an image: colours first, and then the mask over them.
-ghost use Rattle.std.specs.Prelude.{◌≡◌, ◌+◌, ◌*◌, ◌≤◌, ◌<◌, ◌/◌, ◌%◌, ◌^◌, ◌++◌, length, drop, Some};
+ghost use Rattle.std.specs.Prelude.{◌≡◌, ◌+◌, ◌*◌, ◌≤◌, ◌<◌, ◌/◌, ◌%◌, ◌^◌, ◌++◌, length, drop, Some, ℕ};
 ghost use Rattle.fields.specs.Fields.{u8_at};
 ghost use Rattle.words.specs.Format.{argb};
 ghost use Rattle.words.specs.Word.{from_color};
@@ -7,8 +7,8 @@ ghost use Rattle.words.specs.Table.{fives, sixes, back332};
 ghost use Rattle.lbmp.specs.declared.header.Kind.TheVariants.{Greys};
 ghost use Rattle.lbmp.specs.Plane.{plane_size};
 ghost use Rattle.lbmp.specs.File.{kind_of, header_of, pixel_size};
-ghost use Rattle.lbmp.specs.Image.{grey_color, grey_at, at332, at565, color_at, image, pixels};
-ghost use Rattle.lbmp.specs.Walk.{swept, painted, veiled, veil, Fair, Whole};
+ghost use Rattle.lbmp.specs.Image.{grey_color, at332, at565, color_at, image, pixels};
+ghost use Rattle.lbmp.specs.Walk.{swept, painted, veiled, veil, Makes, Fair, Whole};
 
 use crate::header::{Header, Kind, kind_of};
 use fields::{u8_at, u16_at};
@@ -22,11 +22,12 @@ fn bit(p: &[u8], i: usize, s: u32) -> u32
     (u8_at(p, i) >> s) % 2
 }
 
-fn grey_word(high: u32, low: u32) -> u32
-    requires { (high ≤ 1) × (low ≤ 1) }
-    ensures { result ≡ from_color argb (grey_color high low) }
+// The word of the grey that two planes have at a bit.
+fn grey_word(high: &[u8], low: &[u8], i: usize, s: u32) -> u32
+    requires { (i + 1 ≤ length high.now) × ((i + 1 ≤ length low.now) × (s < 8)) }
+    ensures { result ≡ from_color argb (grey_color (u8_at high.now i / 2 ^ s % 2) (u8_at low.now i / 2 ^ s % 2)) }
 {
-    let g = (255 - 85 * (2 * high + low)) as u8;
+    let g = (255 - 85 * (2 * bit(high, i, s) + bit(low, i, s))) as u8;
     words::from_color(
         3,
         Color {
@@ -38,16 +39,21 @@ fn grey_word(high: u32, low: u32) -> u32
     )
 }
 
-// A row of greys.
-fn grey_row(high: &[u8], low: &[u8], w: usize, y: usize, out: &mut [u32])
-    requires { (y / 8 * w + w ≤ length high.now) × ((y / 8 * w + w ≤ length low.now) × (y * w + w ≤ length out.old)) }
-    ensures { out.new ≡ swept (painted (grey_at high.now low.now w)) (y * w) w out.old }
+// Makes each word of the rows anew, from the place of its byte in a plane, its bit there, and what stood in it.
+fn sweep_rows<F: Fn(usize, u32, u32) -> u32>(h: Header, out: &mut [u32], word: F)
+    requires room { h.width * h.height ≤ length out.old }
+    requires callable { (x y v : _) → x < h.width → y < h.height → v < 2 ^ 32 → F.pre word (y / 8 * h.width + x) (y % 8) v }
+    ensures { (f : ℕ → ℕ → ℕ) → Makes (F.post word) h.width h.height f → out.new ≡ swept f 0 (h.width * h.height) out.old }
 {
-    let base = y / 8 * w;
-    let o = y * w;
-    let s = (y % 8) as u32;
-    for x in 0..w {
-        out[o + x] = grey_word(bit(high, base + x, s), bit(low, base + x, s));
+    let w = h.width as usize;
+    let rows = h.height as usize;
+    for y in 0..rows {
+        let base = y / 8 * w;
+        let o = y * w;
+        let s = (y % 8) as u32;
+        for x in 0..w {
+            out[o + x] = word(base + x, s, out[o + x]);
+        }
     }
 }
 
@@ -57,11 +63,7 @@ fn greys(p: &[u8], h: Header, out: &mut [u32])
     ensures { out.new ≡ swept (painted (color_at (Some Greys) p.now (plane_size h.width h.height) h.width)) 0 (h.width * h.height) out.old }
 {
     let (high, low) = p.split_at(p.len() / 2);
-    let w = h.width as usize;
-    let rows = h.height as usize;
-    for y in 0..rows {
-        grey_row(high, low, w, y, out);
-    }
+    sweep_rows(h, out, |i, s, _| grey_word(high, low, i, s));
 }
 
 // Type 8.
@@ -105,27 +107,15 @@ fn paint_colors(p: &[u8], h: Header, out: &mut [u32])
     }
 }
 
-fn veiled_word(bit: u32, word: u32) -> u32
-    requires { bit ≤ 1 }
-    ensures { result ≡ veiled bit word }
+// A word under a bit of the mask.
+fn veiled_word(m: &[u8], i: usize, s: u32, word: u32) -> u32
+    requires { (i + 1 ≤ length m.now) × (s < 8) }
+    ensures { result ≡ veiled (u8_at m.now i / 2 ^ s % 2) word }
 {
-    if bit == 1 {
+    if bit(m, i, s) == 1 {
         return word % 16777216;
     }
     word
-}
-
-// The mask over a row.
-fn veil_row(m: &[u8], w: usize, y: usize, out: &mut [u32])
-    requires { (y / 8 * w + w ≤ length m.now) × (y * w + w ≤ length out.old) }
-    ensures { out.new ≡ swept (veil m.now w) (y * w) w out.old }
-{
-    let base = y / 8 * w;
-    let o = y * w;
-    let s = (y % 8) as u32;
-    for x in 0..w {
-        out[o + x] = veiled_word(bit(m, base + x, s), out[o + x]);
-    }
 }
 
 // The mask over all the rows.
@@ -133,11 +123,7 @@ fn veil_rows(m: &[u8], h: Header, out: &mut [u32])
     requires { (length m.now ≡ plane_size h.width h.height) × (h.width * h.height ≤ length out.old) }
     ensures { out.new ≡ swept (veil m.now h.width) 0 (h.width * h.height) out.old }
 {
-    let w = h.width as usize;
-    let rows = h.height as usize;
-    for y in 0..rows {
-        veil_row(m, w, y, out);
-    }
+    sweep_rows(h, out, |i, s, word| veiled_word(m, i, s, word));
 }
 
 // The words of a sound file.

@@ -13,7 +13,10 @@ fn count_ones(bytes: &[u8], keep: u8) -> u64
     requires { length bytes.now ≤ 4294967296 }
     ensures { result ≡ sum_by (λ b. ones (bit_and b keep)) bytes.now }
 {
-    bytes.iter().map(|byte| u64::from((byte & keep).count_ones())).sum()
+    bytes
+        .iter()
+        .map(|byte| u64::from((byte & keep).count_ones()))
+        .sum()
 }
 
 // The bits that so many rows have in a byte.

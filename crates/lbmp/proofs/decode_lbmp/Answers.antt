@@ -2,7 +2,6 @@
 use mathlib.Core.Path.{◌≡◌}
 use native.Mathlib.Omega.{arith}
 use Rattle.std.specs.Prelude.{Err}
-use Rattle.lbmp.proofs.planes.Sizes.{product_fits}
 use Rattle.lbmp.proofs.faults.Verdicts.{whole_file}
 use Rattle.lbmp.proofs.Answers.{judged_sound, its_pixels, decode_refused, decode_room, decode_sound}
 use Rattle.lbmp.proofs.decode_lbmp.Goals as goal

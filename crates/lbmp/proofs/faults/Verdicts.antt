@@ -1,16 +1,16 @@
 -- The first of two faults; and a file with none is whole, as a whole file has none.
-use mathlib.Core.Path.{◌≡◌, refl, sym, ap, ◌∙◌}
+use mathlib.Core.Path.{◌≡◌, refl}
 use mathlib.Core.Bool.{Bool, true, false}
 use mathlib.Core.List.{List}
 use Rattle.std.specs.Prelude.{Option, Some, None, Ok, Err}
 use Prim.Native.Nat.{ℕ, ◌*◌, ◌≤◌, ◌<◌}
 use native.Mathlib.Omega.{arith}
-use borrow.Author.Tests.{ltb-false, eqb-true, eqb-false, le-ltb, lt-ltb, eq-eqb, ne_eqb, not-false}
+use borrow.Author.Tests.{ltb-false, eqb-true, eqb-false, le-ltb, eq-eqb, ne_eqb, not-false}
 use lib.Dec.{ltb}
 use lib.ListN.{length}
 use Rattle.words.proofs.Either.{neither}
 use Rattle.lbmp.specs.declared.Refusal.{Refusal}
-use Rattle.lbmp.specs.declared.Refusal.TheVariants.{Invalid, BadType}
+use Rattle.lbmp.specs.declared.Refusal.TheVariants.{BadType}
 use Rattle.lbmp.specs.declared.header.Header.{Header}
 use Rattle.lbmp.specs.declared.header.Kind.{Kind}
 use Rattle.lbmp.specs.declared.header.Kind.TheVariants.{Greys, Rgb332, Rgb565}
@@ -60,21 +60,9 @@ kind-known k e u = let z : ◌≡◌ {A = ℕ} 0 1 = (let f : kind_fault k ≡ E
 -- ---- the fields of a header whose sides are not zero
 
 module _ (h : Header) (w : h.width ≡ 0 → ⊥) (t : h.height ≡ 0 → ⊥) where
-  pub size_other : (h.size ≡ expected_size (kind_of h.kind) h.width h.height → ⊥) → Err Invalid ≡ field_fault h
-  unfolding field_fault
-  size_other s = rw (ne_eqb _ _ w, ne_eqb _ _ t, ne_eqb _ _ s) refl
-
-  pub mask_other : h.size ≡ expected_size (kind_of h.kind) h.width h.height → 1 < h.mask → Err Invalid ≡ field_fault h
-  unfolding field_fault
-  mask_other s m = rw (ne_eqb _ _ w, ne_eqb _ _ t, eq-eqb _ _ s, lt-ltb _ _ m) refl
-
   pub fields_fine : h.size ≡ expected_size (kind_of h.kind) h.width h.height → h.mask ≤ 1 → sound ≡ field_fault h
   unfolding field_fault
   fields_fine s m = rw (ne_eqb _ _ w, ne_eqb _ _ t, eq-eqb _ _ s, le-ltb _ _ m) refl
-
-pub expected_is : (h : Header) (k : Option Kind) (r : ℕ) → r ≡ expected_size k h.width h.height → k ≡ kind_of h.kind
-    → r ≡ expected_size (kind_of h.kind) h.width h.height
-expected_is h k r e g = e ∙ ap (λ (j : Option Kind). expected_size j h.width h.height) g
 
 pub whole : (h : Header) (n : ℕ) → header_verdict h n ≡ sound → Whole h n
 unfolding header_verdict field_fault bytes_fault

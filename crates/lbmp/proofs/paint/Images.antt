@@ -2,11 +2,10 @@
 use mathlib.Core.Path.{◌≡◌, refl, sym, ap, ap₂, ◌∙◌}
 use mathlib.Core.List.{List, [], ◌++◌}
 use Rattle.std.specs.Prelude.{Option, Some, None}
-use Prim.Native.Nat.{ℕ, zero, suc, ◌-◌, ◌*◌, ◌/◌, ◌%◌, ◌≤◌}
+use Prim.Native.Nat.{ℕ, zero, suc, ◌*◌, ◌/◌, ◌%◌, ◌≤◌}
 use native.Mathlib.Omega.{arith}
 use lib.ListN.{length, get_or, take, drop}
-use lib.Seq.{take_all, length-take-le, drop_at}
-use lib.ListN.{length-drop}
+use lib.Seq.{drop_at}
 use Rattle.fields.specs.Fields.{u16_at}
 use Rattle.words.specs.declared.Color.{Color}
 use Rattle.words.specs.Format.{rgb332, rgb565, argb}

@@ -1,9 +1,7 @@
 -- What the code makes of a pixel is the word that its place has.
 use mathlib.Core.Path.{◌≡◌, sym, ap, ap₂, ◌∙◌}
 use mathlib.Core.List.{List}
-use Prim.Native.Nat.{ℕ, ◌+◌, ◌*◌, ◌/◌, ◌%◌, ◌^◌, ◌<◌, ◌≤◌}
-use native.Mathlib.Omega.{arith}
-use native.Mathlib.Nat.{mul_comm, mul-le-mul_right, add-mul, one-mul}
+use Prim.Native.Nat.{ℕ, ◌+◌, ◌*◌, ◌/◌, ◌%◌, ◌^◌, ◌<◌}
 use lib.ListN.{get_or}
 use Rattle.fields.specs.Fields.{u16_at}
 use Rattle.words.specs.declared.Color.{Color}
@@ -39,9 +37,3 @@ pub is_565 : (p s t : List ℕ) (i b r v : ℕ) (c : Color) → s ≡ fives → 
     → r ≡ from_color (format_of 3) c → r ≡ painted (at565 p) i v
 unfolding painted format_of
 is_565 p s t i b r v c es et eb ec er = er ∙ ap (from_color argb) (ec ∙ read_565 b es et ∙ ap (to_color rgb565) eb)
-
--- A row's words stand among the words.
-pub row_room : (w h y n : ℕ) → y < h → w * h ≤ n → y * w + w ≤ n
-row_room w h y n l m =
-    let k : (y + 1) * w ≤ h * w = mul-le-mul_right w (omega arith) in
-    omega (arith, mul_comm w h, add-mul y 1 w, one-mul w)

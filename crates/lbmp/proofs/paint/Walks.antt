@@ -4,7 +4,7 @@ use mathlib.Core.List.{List, ◌++◌}
 use Prim.Native.Nat.{ℕ, zero, suc, ◌+◌, ◌-◌, ◌*◌, ◌<◌, ◌≤◌}
 use native.Mathlib.Omega.{arith}
 use mathlib.Core.Logic.{⊎_elim}
-use native.Mathlib.Nat.{eq-zero-or-pos, eq-or-lt_of_le, le_of_suc-le-suc, zero-add, add-zero, add-suc, add-mul, one-mul, zero-mul, mul_comm}
+use native.Mathlib.Nat.{eq-zero-or-pos, eq-or-lt_of_le, le_of_suc-le-suc, zero-add, zero-mul}
 use native.Mathlib.Numerals.{add-one}
 use lib.ListN.{length, get_or, set, drop, length-set, length-append, length-drop, get_or-append}
 use lib.Seq.{get_or-set_same, get_or-set_other, get_or-append-add, get_or-drop, ext_get_or}
@@ -20,37 +20,14 @@ module _ (f : ℕ → ℕ → ℕ) (o : ℕ) where
   swept-length zero l = refl
   swept-length (suc n) l = simp length-set (swept-length n l)
 
-  pub swept-turn : (n v : ℕ) (l : List ℕ) {l' : List ℕ} → l' ≡ swept f o n l → v ≡ f (o + n) (get_or l' (o + n) 0) → set l' (o + n) v ≡ swept f o (n + 1) l
-  unfolding swept
-  swept-turn n v l {l'} e g =
-      rw (add-one n) (ap (λ (k : ℕ). set l' (o + n) k) g ∙ ap (λ (k : List ℕ). set k (o + n) (f (o + n) (get_or k (o + n) 0))) e)
-
-  pub swept_on : (n m : ℕ) (l : List ℕ) → swept f (o + n) m (swept f o n l) ≡ swept f o (n + m) l
-  unfolding swept
-  swept_on n zero l = rw (add-zero n) refl
-  swept_on n (suc m) l =
-      rw (add-suc n m)
-      (ap (λ (k : List ℕ). set k (o + n + m) (f (o + n + m) (get_or k (o + n + m) 0))) (swept_on n m l)
-      ∙ ap (λ (i : ℕ). set (swept f o (n + m) l) i (f i (get_or (swept f o (n + m) l) i 0))) (omega arith))
-
-pub flat-turn : (f : ℕ → ℕ → ℕ) (n v : ℕ) (l : List ℕ) {l' : List ℕ} → l' ≡ swept f 0 n l → v ≡ f n (get_or l' n 0) → set l' n v ≡ swept f 0 (n + 1) l
-flat-turn f n v l {l'} e g =
-    ap (λ (i : ℕ). set l' i v) (sym (zero-add n)) ∙ swept-turn f 0 n v l e (g ∙ ap (λ (i : ℕ). f i (get_or l' i 0)) (sym (zero-add n)))
+pub swept-turn : (f : ℕ → ℕ → ℕ) (n v : ℕ) (l : List ℕ) {l' : List ℕ} → l' ≡ swept f 0 n l → v ≡ f n (get_or l' n 0) → set l' n v ≡ swept f 0 (n + 1) l
+unfolding swept
+swept-turn f n v l {l'} e g =
+    rw (add-one n, zero-add n) (ap (λ (k : ℕ). set l' n k) g ∙ ap (λ (k : List ℕ). set k n (f n (get_or k n 0))) e)
 
 pub rows_none : (f : ℕ → ℕ → ℕ) (w : ℕ) (l : List ℕ) → l ≡ swept f 0 (0 * w) l
 unfolding swept
 rows_none f w l = rw (zero-mul w) refl
-
-pub rows_all : (f : ℕ → ℕ → ℕ) (w h y : ℕ) (l : List ℕ) {l' : List ℕ} → l' ≡ swept f 0 (y * w) l → y ≤ h → h ≤ y → l' ≡ swept f 0 (w * h) l
-rows_all f w h y l e a b =
-    let z : y ≡ h = omega arith in
-    e ∙ ap (λ (n : ℕ). swept f 0 n l) (ap (λ (k : ℕ). k * w) z ∙ mul_comm h w)
-
--- a row more
-pub row_turn : (f : ℕ → ℕ → ℕ) (w y : ℕ) (l : List ℕ) {l' l'' : List ℕ} → l' ≡ swept f 0 (y * w) l → l'' ≡ swept f (y * w) w l' → l'' ≡ swept f 0 ((y + 1) * w) l
-row_turn f w y l {l'} {l''} e g =
-    g ∙ ap (swept f (y * w) w) e ∙ ap (λ (i : ℕ). swept f i w (swept f 0 (y * w) l)) (sym (zero-add (y * w))) ∙ swept_on f 0 (y * w) w l
-    ∙ ap (λ (n : ℕ). swept f 0 n l) (omega (arith, add-mul y 1 w, one-mul w))
 
 -- ---- what a walk leaves at each place
 

@@ -1,11 +1,10 @@
 -- How large planes and parts are.
 use mathlib.Core.Path.{◌≡◌, refl}
 use Rattle.std.specs.Prelude.{Option, Some, None}
-use Prim.Native.Nat.{ℕ, ◌+◌, ◌*◌, ◌/◌, ◌%◌, ◌^◌, ◌<◌, ◌≤◌}
+use Prim.Native.Nat.{ℕ, ◌+◌, ◌*◌, ◌/◌, ◌^◌, ◌<◌, ◌≤◌}
 use native.Mathlib.Omega.{arith}
 use native.Mathlib.Nat.{mul-le-mul, mul-le-mul_right, mul_comm, add-mul, one-mul}
 use borrow.Author.Tests.{eq-eqb, ne_eqb}
-use lib.Pow.{pow_pos, pow_mono}
 use Rattle.lbmp.specs.declared.header.Header.{Header}
 use Rattle.lbmp.specs.declared.header.Kind.{Kind}
 use Rattle.lbmp.specs.declared.header.Kind.TheVariants.{Greys, Rgb332, Rgb565}
@@ -65,10 +64,3 @@ mask_none h e = rw (ne_eqb _ _ e) refl
 pub full_le : (w h : ℕ) → h / 8 * w ≤ plane_size w h
 unfolding plane_size
 full_le w h = mul-le-mul_right w (omega arith)
-
--- A shift by less than eight rows loses nothing.
-pub shift_is : (r : ℕ) → r ≤ 7 → (1 * 2 ^ r % 4294967296 ≡ 2 ^ r) × (1 ≤ 2 ^ r) × (2 ^ r ≤ 128)
-shift_is r l =
-    let p : 1 ≤ 2 ^ r = pow_pos r in
-    let q : 2 ^ r ≤ 2 ^ 7 = pow_mono l in
-    (omega arith, p, q)

@@ -4,7 +4,7 @@ use Prim.Native.Nat.{ℕ}
 use native.Mathlib.Omega.{arith}
 use Rattle.lbmp.specs.Image.{at332}
 use Rattle.lbmp.specs.Walk.{swept, painted}
-use Rattle.lbmp.proofs.paint.Walks.{flat-turn}
+use Rattle.lbmp.proofs.paint.Walks.{swept-turn}
 use Rattle.lbmp.proofs.paint.Places.{is_332}
 use Rattle.lbmp.proofs.paint.bytes332.Goals as goal
 
@@ -16,7 +16,7 @@ pub loop-i-preserved : goal.loop-i-preserved
 loop-i-preserved c =
     let a = c.args in
     let l = c.loop-i in
-    flat-turn (painted (at332 a.p.now)) l.i _ a.out.now l.invariant
+    swept-turn (painted (at332 a.p.now)) l.i _ a.out.now l.invariant
     (is_332 a.p.now a.table.now l.i _ _ _ _ c.requires.1.1 c.u8_at.ensures.0 c.read332.ensures c.from_color.ensures)
 
 pub returns : goal.returns

@@ -5,4 +5,4 @@ use Rattle.lbmp.proofs.paint.grey_word.Goals as goal
 
 pub returns : goal.returns
 unfolding grey_color grey format_of
-returns c = c.from_color.ensures
+returns c = rw (← c.bit.ensures.0, ← c.bit-2.ensures.0) c.from_color.ensures

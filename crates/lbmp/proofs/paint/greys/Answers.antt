@@ -1,44 +1,39 @@
--- The rows behind are painted.
-use mathlib.Core.Path.{◌≡◌, ◌∙◌}
-use Prim.Native.Nat.{◌*◌, ◌/◌}
+-- The bits are read of both planes.
+use mathlib.Core.Path.{◌≡◌, refl, ◌∙◌}
+use Prim.Native.Nat.{◌+◌, ◌*◌, ◌/◌, ◌%◌, ◌^◌, ◌≤◌, ◌<◌}
 use native.Mathlib.Omega.{arith}
-use lib.ListN.{length, take, drop}
+use lib.ListN.{length, get_or, take, drop}
+use Rattle.std.proofs.Common.{rules}
+use Rattle.words.specs.Format.{argb}
+use Rattle.words.specs.Word.{from_color}
 use Rattle.lbmp.specs.Plane.{plane_size}
-use Rattle.lbmp.proofs.planes.Sizes.{plane_row}
-use Rattle.lbmp.proofs.paint.Walks.{rows_none, row_turn, rows_all}
-use Rattle.lbmp.proofs.paint.Places.{row_room}
+use Rattle.lbmp.specs.Image.{grey_color, grey_at}
+use Rattle.lbmp.specs.Walk.{painted}
+use Rattle.lbmp.proofs.planes.Sizes.{plane_inside}
+use Rattle.lbmp.proofs.paint.Places.{grey-is}
 use Rattle.lbmp.proofs.paint.Images.{greys_are}
 use Rattle.lbmp.proofs.paint.greys.Goals as goal
 
-pub loop-y-init : goal.loop-y-init
-loop-y-init c = rows_none _ c.args.h.width c.args.out.now
-
-pub grey_row-requires : goal.grey_row-requires
-grey_row-requires c =
-    let p = c.requires in
-    let a = c.args in
-    let l = c.loop-y in
-    let s = c.split_at.ensures in
-    let row = plane_row a.h.width a.h.height l.y c.loop-y-test.true in (
-      omega (arith, row, p.0, s.front_len),
-      (
-        omega (arith, row, p.0, s.back_len),
-        omega (arith, row_room a.h.width a.h.height l.y (length a.out.now) c.loop-y-test.true p.1, l.auto.out),
-      ),
-    )
-
-pub loop-y-preserved : goal.loop-y-preserved
-loop-y-preserved c = row_turn _ c.args.h.width c.loop-y.y c.args.out.now c.loop-y.invariant c.grey_row.ensures
+pub sweep_rows-requires-clause-callable : goal.sweep_rows-requires-clause-callable
+sweep_rows-requires-clause-callable c = λ x y v lx ly lv.
+    let w = c.args.h.width in
+    let t = c.split_at in
+    let p = plane_inside w c.args.h.height x y lx ly in
+    let i : y / 8 * w + x + 1 ≤ length t.result.0.now = omega (arith, p, c.requires.0, t.ensures.front_len) in
+    let j : y / 8 * w + x + 1 ≤ length t.result.1.now = omega (arith, p, c.requires.0, t.ensures.back_len) in
+    let s : y % 8 < 8 = omega arith in
+    search rules
 
 pub returns : goal.returns
 returns c =
-    let p = c.requires in
     let a = c.args in
-    let l = c.loop-y in
-    let s = c.split_at in
-    let n = plane_size a.h.width a.h.height in
-    let half : length a.p.now / 2 ≡ n = omega (arith, p.0) in
-    let high : s.result.0.now ≡ take n a.p.now = rw half at s.ensures.front in
-    let low : s.result.1.now ≡ drop n a.p.now = rw half at s.ensures.back in
-    rows_all _ a.h.width a.h.height l.y a.out.now l.invariant l.auto.y-end c.loop-y-test.false
-    ∙ greys_are a.p.now _ _ a.out.now n a.h.width (a.h.width * a.h.height) high low
+    let w = a.h.width in
+    let t = c.split_at in
+    let n = plane_size w a.h.height in
+    let half : length a.p.now / 2 ≡ n = omega (arith, c.requires.0) in
+    let high : t.result.0.now ≡ take n a.p.now = rw half at t.ensures.front in
+    let low : t.result.1.now ≡ drop n a.p.now = rw half at t.ensures.back in
+    c.sweep_rows.ensures (painted (grey_at t.result.0.now t.result.1.now w)) (λ x y v r lx ly lv e.
+    let b : r ≡ from_color argb (grey_color (get_or t.result.0.now (y / 8 * w + x) 0 / 2 ^ (y % 8) % 2) (get_or t.result.1.now (y / 8 * w + x) 0 / 2 ^ (y % 8) % 2)) = search rules in
+    grey-is w y x lx t.result.0.now t.result.1.now _ _ r v refl refl b)
+    ∙ greys_are a.p.now _ _ a.out.now n w (w * a.h.height) high low

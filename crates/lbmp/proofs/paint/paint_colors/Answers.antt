@@ -1,5 +1,5 @@
 -- By the types.
-use mathlib.Core.Path.{◌≡◌, sym, ◌∙◌}
+use mathlib.Core.Path.{sym, ◌∙◌}
 use Rattle.std.specs.Prelude.{Some}
 use Prim.Native.Nat.{◌*◌}
 use native.Mathlib.Omega.{arith}

@@ -1,30 +1,23 @@
--- The rows behind are veiled.
+-- The bit is read of the plane, and lies over the word.
+use mathlib.Core.Path.{◌≡◌, refl}
+use Prim.Native.Nat.{◌+◌, ◌*◌, ◌/◌, ◌%◌, ◌^◌, ◌≤◌, ◌<◌}
 use native.Mathlib.Omega.{arith}
-use lib.ListN.{length}
-use Rattle.lbmp.specs.Walk.{veil}
-use Rattle.lbmp.proofs.planes.Sizes.{plane_row}
-use Rattle.lbmp.proofs.paint.Walks.{rows_none, row_turn, rows_all}
-use Rattle.lbmp.proofs.paint.Places.{row_room}
+use lib.ListN.{length, get_or}
+use Rattle.std.proofs.Common.{rules}
+use Rattle.lbmp.specs.Walk.{veiled, veil}
+use Rattle.lbmp.proofs.planes.Sizes.{plane_inside}
+use Rattle.lbmp.proofs.paint.Places.{veil-is}
 use Rattle.lbmp.proofs.paint.veil_rows.Goals as goal
 
-pub loop-y-init : goal.loop-y-init
-loop-y-init c = rows_none _ c.args.h.width c.args.out.now
-
-pub veil_row-requires : goal.veil_row-requires
-veil_row-requires c =
-    let p = c.requires in
-    let a = c.args in
-    let l = c.loop-y in
-    let t = c.loop-y-test.true in (
-      omega (arith, plane_row a.h.width a.h.height l.y t, p.0),
-      omega (arith, row_room a.h.width a.h.height l.y (length a.out.now) t p.1, l.auto.out),
-    )
-
-pub loop-y-preserved : goal.loop-y-preserved
-loop-y-preserved c = row_turn _ c.args.h.width c.loop-y.y c.args.out.now c.loop-y.invariant c.veil_row.ensures
+pub sweep_rows-requires-clause-callable : goal.sweep_rows-requires-clause-callable
+sweep_rows-requires-clause-callable c = λ x y v lx ly lv.
+    let w = c.args.h.width in
+    let i : y / 8 * w + x + 1 ≤ length c.args.m.now = omega (arith, plane_inside w c.args.h.height x y lx ly, c.requires.0) in
+    let s : y % 8 < 8 = omega arith in
+    search rules
 
 pub returns : goal.returns
-returns c =
-    let a = c.args in
-    let l = c.loop-y in
-    rows_all (veil a.m.now a.h.width) a.h.width a.h.height l.y a.out.now l.invariant l.auto.y-end c.loop-y-test.false
+returns c = c.sweep_rows.ensures (veil c.args.m.now c.args.h.width) (λ x y v r lx ly lv e.
+    let w = c.args.h.width in
+    let b : r ≡ veiled (get_or c.args.m.now (y / 8 * w + x) 0 / 2 ^ (y % 8) % 2) v = search rules in
+    veil-is w y x lx c.args.m.now _ r v refl b)

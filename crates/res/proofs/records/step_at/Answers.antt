@@ -2,7 +2,6 @@
 use mathlib.Core.Path.{sym, ◌∙◌}
 use native.Mathlib.Omega.{arith}
 use borrow.Author.Tests.{ltb-true}
-use lib.ListN.{length}
 use Rattle.res.proofs.records.Steps.{at-end, uncut, too_deep, right-depth, type_static, type_moving, type_other}
 use Rattle.res.proofs.records.step_at.Goals as goal
 
