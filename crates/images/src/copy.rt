@@ -77,10 +77,12 @@ fn copy_row(
     ensures { b.new ≡ paint canvas (marks (shifted canvas b.old x y sx sy) (run x n) y) b.old }
 {
     let right = x <= sx;
-    for k in (0..n).step_by(64) {
+    let mut k = 0;
+    while k < n {
         let m = (n - k).min(64);
         let at = if right { k } else { n - k - m };
         copy_chunk(canvas, b, y, x + at, sy, sx + at, m, chunk);
+        k += m;
     }
 }
 
@@ -99,8 +101,8 @@ fn copy_part(canvas: Canvas, b: &mut [u8], part: Part)
     }
 }
 
-// The pixels of one box, in the place of those of another. A call that is refused writes a count of its own, before anything
-// else is asked.
+// The pixels of one box, in the place of those of another. The count is written before them, so that a call that is refused
+// writes its own and shares no place with one that is accepted.
 pub fn copy_counted(
     canvas: Canvas,
     bytes: &mut [u8],
@@ -115,8 +117,10 @@ pub fn copy_counted(
 ) -> Drawn
     ensures { (leaves result bytes.new, count.new) ≡ counted (copy_area canvas dx dy sx sy w h clip bytes.old) }
 {
-    *count = [0];
-    judge(canvas, bytes.len())?;
+    if let Err(r) = judge(canvas, bytes.len()) {
+        *count = [0];
+        return Err(r);
+    }
     let part = shown(canvas, canvas, dx, dy, sx, sy, w, h, clip);
     let n = part.pixels();
     *count = [n];

@@ -62,7 +62,8 @@ fn draw_chunk(
     lay(canvas, b, y, x, ws);
 }
 
-// A row of n pixels, chunk by chunk.
+// A row of n pixels, chunk by chunk. The chunk's length is the step, here and in a copy: of a step of 64 the compiler makes a
+// loop that takes more instructions a chunk.
 fn draw_row(
     canvas: Canvas,
     b: &mut [u8],
@@ -84,9 +85,11 @@ fn draw_row(
     requires rows { sy < source.height }
     ensures { b.new ≡ paint canvas (marks (overlaid canvas source image.now x y sx sy) (run x n) y) b.old }
 {
-    for k in (0..n).step_by(64) {
+    let mut k = 0;
+    while k < n {
         let m = (n - k).min(64);
         draw_chunk(canvas, b, y, x + k, source, image, sy, sx + k, m, cs, ws);
+        k += m;
     }
 }
 

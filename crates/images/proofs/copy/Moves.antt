@@ -10,7 +10,7 @@ use lib.Dec.{leb}
 use lib.IntN.{ℤ}
 use lib.ListN.{length, get_or, set, length-set}
 use lib.Seq.{get_or-set_same, get_or-set_other}
-use Rattle.std.proofs.Common.{Result, Ok, Err, IsErrAnd}
+use Rattle.std.proofs.Common.{Result}
 use Rattle.words.specs.Format.{Format, rgb332, rgb565, rgb8, argb, abgr, none, format_of, range}
 use Rattle.words.specs.Word.{from_color, to_color, seen}
 use Rattle.words.proofs.Reading.{read-store}
@@ -321,9 +321,3 @@ copies v b o dx dy sx sy w h c p s = field_alike (copied v b dx dy sx sy) (shift
 -- what is answered and left, with the count beside it
 pub with_count : {o : Outcome} (d : Result Tally Refusal) (b n : List ℕ) → leaves d b ≡ o → n ≡ count_of d ∷ [] → ◌≡◌ {A = Outcome × List ℕ} (leaves d b, n) (counted o)
 with_count d b n e h = rw h (ap counted e)
-
--- a refusal counts none
-pub none-counted : (d : Result Tally Refusal) (r : Refusal) → IsErrAnd d (λ e. e ≡ r) → 0 ∷ [] ≡ count_of d ∷ []
-unfolding count_of
-none-counted (Ok t) r k = absurd k
-none-counted (Err e) r k = refl

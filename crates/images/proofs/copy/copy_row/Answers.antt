@@ -21,20 +21,8 @@ loop-k-preserved c =
     let m = c.min-m.result in
     let start : c.if-right.at ≡ cond (leb a.x a.sx) l.k (a.n - l.k - m)
     = elim c.if-right.branch [ then-right w ↦ rw (le-leb a.x a.sx w.if-right.true) w.at-is | else-right w ↦ rw (lt-leb a.x a.sx w.if-right.false) w.at-is ] in
-    let whole : m ≡ 64 = omega arith in
-    rw whole at (row_more _ _ (screen_of pre.sized (λ i. search rules)) _ _ _ _ _ pre.wide pre.columns pre.high pre.rows _ (way_of a.x a.sx _ refl)
-    _ m _ _ _ l.invariant (omega arith) start c.copy_chunk.ensures)
+    row_more _ _ (screen_of pre.sized (λ i. search rules)) _ _ _ _ _ pre.wide pre.columns pre.high pre.rows _ (way_of a.x a.sx _ refl)
+    _ m _ _ _ l.invariant (omega arith) start c.copy_chunk.ensures
 
 pub returns : goal.returns
 returns c = row_all c.loop-k.invariant (omega arith)
-
-pub returns-after-right : goal.returns-after-right
-returns-after-right c =
-    let a = c.args in
-    let pre = c.requires in
-    let l = c.loop-k in
-    let m = c.min-m.result in
-    let start : c.if-right.at ≡ cond (leb a.x a.sx) l.k (a.n - l.k - m)
-    = elim c.if-right.branch [ then-right w ↦ rw (le-leb a.x a.sx w.if-right.true) w.at-is | else-right w ↦ rw (lt-leb a.x a.sx w.if-right.false) w.at-is ] in
-    row_all (row_more _ _ (screen_of pre.sized (λ i. search rules)) _ _ _ _ _ pre.wide pre.columns pre.high pre.rows _ (way_of a.x a.sx _ refl)
-    _ m _ _ _ l.invariant (omega arith) start c.copy_chunk.ensures) (omega arith)
