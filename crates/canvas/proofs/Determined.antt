@@ -15,6 +15,7 @@ use Rattle.canvas.proofs.boxes.draw_rect.Reads as draw-rect
 use Rattle.canvas.proofs.boxes.fill_rect.Reads as fill-rect
 use Rattle.canvas.proofs.areas.invert_rect.Reads as invert-rect
 use Rattle.canvas.proofs.look.get_pixel.Reads as get-pixel
+use Rattle.canvas.proofs.faults.or_else.Reads as or_else
 use Rattle.canvas.proofs.faults.judge.Reads as judge
 use Rattle.canvas.proofs.span.lift.Reads as lift
 use Rattle.canvas.proofs.span.signed.Reads as signed
@@ -123,6 +124,9 @@ count_determined κs a s s' r r' p q = p ∙ sym q
 
 worked_same : (b b' : List ℕ) (t t' : Tally) → work b t ≡ work b' t' → (t ≡ t') × (b ≡ b')
 worked_same b b' t t' h = (ap (λ (w : Work). w.tally) h, ap (λ (w : Work). w.bytes) h)
+
+pub or_else_determined : (κs : _) (a : _) (s s' : _) (r r' : _) → or_else.Post κs a r s → or_else.Post κs a r' s' → r ≡ r'
+or_else_determined κs a s s' r r' p q = p ∙ sym q
 
 pub judge_determined : (κs : _) (a : _) (s s' : _) (r r' : _) → judge.Post κs a r s → judge.Post κs a r' s' → r ≡ r'
 judge_determined κs a s s' r r' p q = p ∙ sym q

@@ -1,9 +1,16 @@
 // Which canvases are refused.
 ghost use Rattle.std.specs.Prelude.{◌≡◌, ◌≤◌, not, ◌||◌, ◌==◌, nat_lt};
-ghost use Rattle.canvas.specs.Faults.{verdict};
+ghost use Rattle.canvas.specs.Faults.{or_else, verdict};
 
 use crate::Refusal;
 use pixels::Canvas;
+
+// The first of two faults.
+pub fn or_else(f: Result<(), Refusal>, d: Result<(), Refusal>) -> Result<(), Refusal>
+    ensures { result ≡ or_else f d }
+{
+    f.and(d)
+}
 
 // Whether a number is neither 1 nor 2; 0 wraps around.
 fn is_unruly(rule: u32) -> bool

@@ -3,6 +3,7 @@ ghost use Rattle.std.specs.Prelude.{◌≡◌};
 ghost use Rattle.ovals.specs.Faults.{outside, angle_fault, shape_fault, arc_fault};
 
 use canvas::Refusal;
+use canvas::faults::or_else;
 
 fn beyond(a: i32, low: i32, high: i32) -> bool
     ensures { result ≡ outside low high a }
@@ -48,6 +49,5 @@ pub(crate) fn shape_fault(x: i32, y: i32, w: u32, h: u32) -> Result<(), Refusal>
 pub(crate) fn arc_fault(x: i32, y: i32, w: u32, h: u32, start: i32, arc: i32) -> Result<(), Refusal>
     ensures { result ≡ arc_fault x y w h start arc }
 {
-    angle_fault(start, arc)?;
-    shape_fault(x, y, w, h)
+    or_else(angle_fault(start, arc), shape_fault(x, y, w, h))
 }

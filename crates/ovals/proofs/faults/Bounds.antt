@@ -1,10 +1,9 @@
 -- The bounds of angles and of boxes: as the code asks them, and what they give.
-use Rattle.std.proofs.Common.{◌≡◌, ℕ, suc, ◌≤◌, Bool, true, false, ◌||◌, ltb, ℤ, pos, negsuc, nat_abs, sym, refl, ◌∙◌, arith, w32, SFits, to_z, of_z, ltb-false, Ok, Err, IsErrAnd}
+use Rattle.std.proofs.Common.{◌≡◌, ℕ, suc, ◌≤◌, Bool, true, false, ◌||◌, ltb, ℤ, pos, negsuc, nat_abs, sym, refl, ◌∙◌, arith, w32, SFits, to_z, of_z, ltb-false, Ok}
 use lib.Signed.{lt_z}
 use mir.ValLaws.{to_z-of_z}
-use Rattle.canvas.specs.declared.Refusal.{Refusal}
 use Rattle.canvas.specs.declared.Refusal.TheVariants.{Shape}
-use Rattle.canvas.specs.Faults.{Verdict, or_else}
+use Rattle.canvas.specs.Faults.{Verdict}
 use Rattle.ovals.specs.Faults.{outside, angle_fault, shape_fault, arc_fault, Shaped}
 use Rattle.words.proofs.Either.{neither}
 use Rattle.canvas.proofs.faults.Verdicts.{passes, both_sound}
@@ -28,12 +27,6 @@ shape_of x y w h d sx sy e = rw (to_z-of_z w32 x sx, to_z-of_z w32 y sy) at e
 pub arc_of : (x y : ℤ) (w h : ℕ) (start arc : ℤ) (d : Verdict) → SFits w32 x → SFits w32 y → SFits w32 start → SFits w32 arc
     → d ≡ arc_fault (to_z w32 (of_z w32 x)) (to_z w32 (of_z w32 y)) w h (to_z w32 (of_z w32 start)) (to_z w32 (of_z w32 arc)) → d ≡ arc_fault x y w h start arc
 arc_of x y w h start arc d sx sy ss sa e = rw (to_z-of_z w32 x sx, to_z-of_z w32 y sy, to_z-of_z w32 start ss, to_z-of_z w32 arc sa) at e
-
--- a first fault, as `?` hands it on
-pub hands : (d own : Verdict) {f : Verdict} {r : Refusal} → IsErrAnd d (λ e. e ≡ r) → Err r ≡ f → d ≡ or_else f own
-unfolding or_else
-hands (Ok u) own k h = absurd k
-hands (Err e) own k h = rw (← h, k) refl
 
 -- ---- a box without a fault
 
