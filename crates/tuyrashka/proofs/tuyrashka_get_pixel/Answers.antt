@@ -12,14 +12,14 @@ returns-in-Err c =
     shows c.args.bytes.now c.get_pixel-p.result c.ranges.x c.ranges.y c.canvas_of-v.ensures
     (rw (c.in-Err.is, c.number.ensures) refl) c.get_pixel-p.ensures
 
-pub returns-in-None : goal.returns-in-None
+pub returns-in-Ok-None : goal.returns-in-Ok-None
 unfolding status_of seen_of tells
-returns-in-None c =
+returns-in-Ok-None c =
     shows c.args.bytes.now c.get_pixel-p.result c.ranges.x c.ranges.y c.canvas_of-v.ensures
-    (rw c.in-None.is refl) c.get_pixel-p.ensures
+    (rw c.in-Ok-None.is refl) c.get_pixel-p.ensures
 
-pub returns-in-Some : goal.returns-in-Some
+pub returns-in-Ok-Some : goal.returns-in-Ok-Some
 unfolding status_of seen_of tells format_of
-returns-in-Some c =
+returns-in-Ok-Some c =
     shows c.args.bytes.now c.get_pixel-p.result c.ranges.x c.ranges.y c.canvas_of-v.ensures
-    (rw (c.in-Some.is, c.from_color.ensures) refl) c.get_pixel-p.ensures
+    (rw (c.in-Ok-Some.is, c.from_color.ensures) refl) c.get_pixel-p.ensures

@@ -5,4 +5,4 @@ use Rattle.tuyrashka.proofs.records.source_of.Goals as goal
 
 pub returns : goal.returns
 unfolding source_of
-returns c = rw c.canvas_of-s.ensures refl
+returns c = rw c.canvas_of.ensures refl
