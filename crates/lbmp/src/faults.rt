@@ -1,6 +1,4 @@
 // Which files are refused: the tests in their order.
-#![tactic(auto, unfolding(crate::specs::Faults::area_fault, crate::specs::Faults::twice_fault, crate::specs::Faults::field_fault, crate::specs::Faults::planes_fault, crate::specs::Faults::bytes_fault, crate::specs::Faults::verdict, crate::specs::Faults::short_fault, crate::specs::Faults::or_else))]
-
 ghost use Rattle.std.specs.Prelude.{◌≡◌, ◌*◌, ◌≤◌, Some};
 ghost use Rattle.lbmp.specs.File.{kind_of};
 ghost use Rattle.lbmp.specs.Faults.{area_fault, twice_fault, field_fault, planes_fault, bytes_fault, header_verdict, verdict};
@@ -8,6 +6,7 @@ ghost use Rattle.lbmp.specs.Faults.{area_fault, twice_fault, field_fault, planes
 use crate::Refusal;
 use crate::header::{Header, Kind, expected_size, kind_of, mask_size, pixel_size, read_header};
 
+#[tactic(auto, unfolding(crate::specs::Faults::area_fault))]
 fn area_fault(h: Header) -> Result<(), Refusal>
     ensures { result ≡ area_fault h }
 {
@@ -17,6 +16,7 @@ fn area_fault(h: Header) -> Result<(), Refusal>
     Ok(())
 }
 
+#[tactic(auto, unfolding(crate::specs::Faults::twice_fault))]
 fn twice_fault(kind: Option<Kind>, n: u64) -> Result<(), Refusal>
     requires { n ≤ 4294967295 }
     ensures { result ≡ twice_fault kind n }
@@ -27,6 +27,7 @@ fn twice_fault(kind: Option<Kind>, n: u64) -> Result<(), Refusal>
     }
 }
 
+#[tactic(auto, unfolding(crate::specs::Faults::field_fault))]
 fn field_fault(h: Header, kind: Kind) -> Result<(), Refusal>
     requires { (h.width * h.height ≤ 4294967295) × (kind_of h.kind ≡ Some kind) }
     ensures { result ≡ field_fault h }
@@ -40,6 +41,7 @@ fn field_fault(h: Header, kind: Kind) -> Result<(), Refusal>
     Ok(())
 }
 
+#[tactic(auto, unfolding(crate::specs::Faults::planes_fault))]
 fn planes_fault(kind: Kind, size: u32) -> Result<(), Refusal>
     ensures { result ≡ planes_fault (Some kind) size }
 {
@@ -49,6 +51,7 @@ fn planes_fault(kind: Kind, size: u32) -> Result<(), Refusal>
     }
 }
 
+#[tactic(auto, unfolding(crate::specs::Faults::bytes_fault))]
 fn bytes_fault(h: Header, n: u64) -> Result<(), Refusal>
     ensures { result ≡ bytes_fault h n }
 {
@@ -73,6 +76,7 @@ fn header_verdict(h: Header, n: u64) -> Result<(), Refusal>
 }
 
 // The first fault of a file, ROOM apart.
+#[tactic(auto, unfolding(crate::specs::Faults::verdict, crate::specs::Faults::short_fault, crate::specs::Faults::or_else))]
 pub(crate) fn verdict_of(file: &[u8]) -> Result<(), Refusal>
     ensures { result ≡ verdict file.now }
 {

@@ -1,6 +1,4 @@
 // The header of a file, and the parts that follow it.
-#![tactic(auto, unfolding(crate::specs::Plane::plane_size, crate::specs::File::header_of, crate::specs::File::kind_of, crate::specs::File::expected_size, crate::specs::File::image_size, crate::specs::File::mask_size))]
-
 ghost use Rattle.std.specs.Prelude.{◌≡◌, ◌+◌, ◌*◌, ◌≤◌, ◌<◌, length, Some};
 ghost use Rattle.lbmp.specs.Plane.{plane_size};
 ghost use Rattle.lbmp.specs.File.{header_of, kind_of, expected_size, pixel_size, mask_size, pixel_bytes, mask_bytes};
@@ -25,6 +23,7 @@ pub(crate) enum Kind {
     Rgb565,
 }
 
+#[tactic(auto, unfolding(crate::specs::File::header_of))]
 pub(crate) fn read_header(file: &[u8]) -> Header
     requires { 24 ≤ length file.now }
     ensures { result ≡ header_of file.now }
@@ -38,6 +37,7 @@ pub(crate) fn read_header(file: &[u8]) -> Header
     }
 }
 
+#[tactic(auto, unfolding(crate::specs::File::kind_of))]
 pub(crate) fn kind_of(kind: u32) -> Option<Kind>
     ensures { result ≡ kind_of kind }
 {
@@ -50,12 +50,14 @@ pub(crate) fn kind_of(kind: u32) -> Option<Kind>
 }
 
 // The bytes of a plane.
+#[tactic(auto, unfolding(crate::specs::Plane::plane_size))]
 pub(crate) fn plane_size(width: u32, height: u32) -> u64
     ensures { (result ≡ plane_size width height) × (result < 4611686018427387904) }
 {
     u64::from(height).div_ceil(8) * u64::from(width)
 }
 
+#[tactic(auto, unfolding(crate::specs::File::expected_size))]
 pub(crate) fn expected_size(kind: Kind, width: u32, height: u32) -> u64
     requires { width * height ≤ 4294967295 }
     ensures { result ≡ expected_size (Some kind) width height }
@@ -68,6 +70,7 @@ pub(crate) fn expected_size(kind: Kind, width: u32, height: u32) -> u64
 }
 
 // The bytes of the pixels.
+#[tactic(auto, unfolding(crate::specs::File::image_size))]
 pub(crate) fn pixel_size(h: Header) -> u64
     ensures { (result ≡ pixel_size h) × (result < 8589934592) }
 {
@@ -78,6 +81,7 @@ pub(crate) fn pixel_size(h: Header) -> u64
 }
 
 // The bytes of the mask: none where there is no mask.
+#[tactic(auto, unfolding(crate::specs::File::mask_size))]
 pub(crate) fn mask_size(h: Header) -> u64
     ensures { (result ≡ mask_size h) × (result < 4611686018427387904) }
 {

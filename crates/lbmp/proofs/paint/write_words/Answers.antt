@@ -19,55 +19,29 @@ pixel_bytes-requires c = (c.read_header-h.ensures, same_whole c.read_header-h.en
 pub paint_colors-requires : goal.paint_colors-requires
 paint_colors-requires c =
     let p = c.requires in
-    let a = c.args in
-    let read-header = c.read_header-h in (
-      (same_whole read-header.ensures p.0).fair,
+    let h = c.read_header-h.ensures in (
+      (same_whole h p.0).fair,
       (
-        ap length c.pixel_bytes.ensures ∙ pixels-length a.file.now p.0
-            ∙ sym (ap pixel_size read-header.ensures),
-        omega (arith, same-pixels a.file.now read-header.result read-header.ensures, p.1),
+        ap length c.pixel_bytes.ensures ∙ pixels-length _ p.0 ∙ sym (ap pixel_size h),
+        omega (arith, same-pixels _ _ h, p.1),
       ),
     )
 
 pub mask_bytes-requires : goal.mask_bytes-requires
-mask_bytes-requires c =
-    let p = c.requires in
-    let read-header = c.read_header-h in
-    (read-header.ensures, same_whole read-header.ensures p.0)
+mask_bytes-requires c = (c.read_header-h.ensures, same_whole c.read_header-h.ensures c.requires.0)
 
 pub veil_rows-requires : goal.veil_rows-requires
 veil_rows-requires c =
     let p = c.requires in
-    let a = c.args in
-    let read-header = c.read_header-h in
-    let paint-colors = c.paint_colors in (
-      ap length c.mask_bytes.ensures ∙ mask_length a.file.now p.0 ∙ sym (ap mask_size read-header.ensures)
-          ∙ mask_plane read-header.result c.if-h-eq1.true,
-      omega (
-        arith,
-        same-pixels a.file.now read-header.result read-header.ensures,
-        p.1,
-        ap length paint-colors.ensures ∙ swept-length _ _ _ _,
-      ),
+    let h = c.read_header-h.ensures in (
+      ap length c.mask_bytes.ensures ∙ mask_length _ p.0 ∙ sym (ap mask_size h) ∙ mask_plane _ c.if-h-eq1.true,
+      omega (arith, same-pixels _ _ h, p.1, ap length c.paint_colors.ensures ∙ swept-length _ _ _ _),
     )
 
 pub returns-then-h-eq1 : goal.returns-then-h-eq1
 returns-then-h-eq1 c =
-    let a = c.args in
-    let p = c.requires in
-    let read-header = c.read_header-h in
-    let pixel-bytes = c.pixel_bytes in
-    let paint-colors = c.paint_colors in
-    let mask-bytes = c.mask_bytes in
-    written_masked a.file.now a.out.now _ _ read-header.result p.1 read-header.ensures pixel-bytes.ensures paint-colors.ensures
-    _ _ mask-bytes.ensures c.veil_rows.ensures
+    written_masked _ _ _ _ _ c.requires.1 c.read_header-h.ensures c.pixel_bytes.ensures c.paint_colors.ensures _ _ c.mask_bytes.ensures c.veil_rows.ensures
 
 pub returns-else-h-eq1 : goal.returns-else-h-eq1
 returns-else-h-eq1 c =
-    let a = c.args in
-    let p = c.requires in
-    let read-header = c.read_header-h in
-    let pixel-bytes = c.pixel_bytes in
-    let paint-colors = c.paint_colors in
-    written_plain a.file.now a.out.now _ _ read-header.result p.1 read-header.ensures pixel-bytes.ensures paint-colors.ensures
-    c.if-h-eq1.false
+    written_plain _ _ _ _ _ c.requires.1 c.read_header-h.ensures c.pixel_bytes.ensures c.paint_colors.ensures c.if-h-eq1.false
