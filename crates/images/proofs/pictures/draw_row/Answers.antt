@@ -1,6 +1,5 @@
 -- What is done leaves the rest of the row as it was.
 use native.Mathlib.Omega.{arith}
-use mathlib.Core.Path.{◌≡◌}
 use Rattle.images.proofs.pictures.Overlays.{over_none, over-more, over_all}
 use Rattle.images.proofs.pictures.draw_row.Goals as goal
 
