@@ -1,3 +1,2 @@
 -- The laws of area copies.
 pub mod Moves
-pub mod Chunked

@@ -30,7 +30,6 @@ use Rattle.images.specs.Areas.{copied, counted}
 use Rattle.pixels.proofs.bytes.Cells.{Bytes}
 use Rattle.pixels.proofs.bytes.Pixels.{load_lt}
 use Rattle.pixels.proofs.Orders.{Screen, All, By}
-use Rattle.pixels.proofs.Hits.{paint-length}
 use Rattle.pixels.proofs.rows.Parts.{join_after, join_before, marks_all, field_all, marks_alike, field_alike, Elsewhere, load_elsewhere}
 
 -- ---- top bytes
@@ -213,9 +212,6 @@ pub row_all : {v : Canvas} {b₀ : List ℕ} {x y sx sy n : ℕ} {right : Bool} 
 row_all {v} {b₀} {x} {y} {sx} {sy} {n} {right} {k} d l =
     d.same ∙ ap₂ (λ (i j : ℕ). paint v (marks (shifted v b₀ x y sx sy) (run i j) y) b₀) (from_start x n k right l) (omega (arith, d.few))
 
-pub moved_sized : {v : Canvas} {b₀ : List ℕ} {x y sx sy n : ℕ} {right : Bool} {k : ℕ} {b : List ℕ} → Moved v b₀ x y sx sy n right k b → length b ≡ length b₀
-moved_sized {v} {b₀} d = ap length d.same ∙ paint-length v _ b₀
-
 -- ---- a box of rows
 
 pub record Rows (v : Canvas) (b₀ : List ℕ) (x y sx sy n m : ℕ) (below : Bool) (k : ℕ) (b : List ℕ) : Type 0 where
@@ -284,14 +280,6 @@ pub rows_all : {v : Canvas} {b₀ : List ℕ} {x y sx sy n m : ℕ} {below : Boo
     → b ≡ paint v (field (shifted v b₀ x y sx sy) (run x n) (run y m)) b₀
 rows_all {v} {b₀} {x} {y} {sx} {sy} {n} {m} {below} {k} d l =
     d.same ∙ ap₂ (λ (i j : ℕ). paint v (field (shifted v b₀ x y sx sy) (run x n) (run i j)) b₀) (from_start y m k below l) (omega (arith, d.few))
-
-pub rows-sized : {v : Canvas} {b₀ : List ℕ} {x y sx sy n m : ℕ} {below : Bool} {k : ℕ} {b : List ℕ} → Rows v b₀ x y sx sy n m below k b → length b ≡ length b₀
-rows-sized {v} {b₀} d = ap length d.same ∙ paint-length v _ b₀
-
--- where the next part begins
-pub part_at : (r : Bool) (n k m at : ℕ) → k + m ≤ n → at ≡ cond r k (n - k - m) → at + m ≤ n
-part_at true n k m at l e = omega arith
-part_at false n k m at l e = omega arith
 
 -- what the code's test says
 pub way_of : (x sx : ℕ) (t : Bool) → t ≡ leb x sx → Way x sx t

@@ -1,20 +1,18 @@
 -- What is shown of a box, from lifted corners: the columns and rows that `shown_in` answers, or nothing.
-use mathlib.Core.Path.{◌≡◌, refl, sym, ap, ap₂, ◌∙◌}
+use mathlib.Core.Path.{◌≡◌, refl, sym, ap, ◌∙◌}
 use mathlib.Core.List.{List, [], ◌∷◌, flat_map}
-use Prim.Native.Nat.{ℕ, ◌+◌, ◌-◌, ◌≤◌, ◌<◌}
+use Prim.Native.Nat.{ℕ, ◌+◌, ◌-◌, ◌<◌}
 use native.Mathlib.Omega.{arith}
-use Rattle.std.proofs.Common.{ℤ, nat_abs, w32, SFits, to_z, of_z, ◌⊎◌, inl, inr}
+use Rattle.std.proofs.Common.{ℤ, w32, SFits, to_z, of_z, ◌⊎◌, inl, inr}
 use Rattle.pixels.specs.declared.Canvas.{Canvas}
-use Rattle.pixels.specs.Hits.{Hit}
 use Rattle.pixels.specs.Rows.{run, field}
 use Rattle.canvas.specs.declared.Clip.{Clip}
 use Rattle.canvas.specs.Plot.{hits}
-use Rattle.canvas.specs.Boxes.{spots, source_of, shown}
+use Rattle.canvas.specs.Boxes.{spots, shown}
 use Rattle.canvas.specs.Walk.{lowered, Shown}
 use Rattle.canvas.proofs.boxes.Boxes.{shown-hits}
 use Rattle.canvas.proofs.span.Sources.{source_at}
-use Rattle.images.specs.declared.parts.Part.{Part}
-use Rattle.images.specs.Parts.{filled, Placed, Shows}
+use Rattle.images.specs.Parts.{Placed, Shows}
 
 no_columns : (f : ℕ → ℕ → ℕ → ℕ) (x : ℕ) (ys : List ℕ) → field f (run x 0) ys ≡ []
 unfolding flat_map run

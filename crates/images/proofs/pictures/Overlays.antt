@@ -28,7 +28,6 @@ use Rattle.images.specs.declared.parts.Part.{Part}
 use Rattle.images.specs.Chunks.{overlaid, Solid}
 use Rattle.images.specs.Parts.{filled, Shows}
 use Rattle.pixels.proofs.bytes.Pixels.{load_other}
-use Rattle.pixels.proofs.Hits.{paint-length}
 use Rattle.pixels.proofs.rows.Rows.{each_same}
 use Rattle.images.proofs.copy.Moves.{one_row}
 use Rattle.pixels.proofs.rows.Parts.{join_after, marks_alike, field_alike}
@@ -135,9 +134,6 @@ over-more v s image b₀ b b' x y sx sy n k m d l e = record {
 pub over_all : {v s : Canvas} {image b₀ : List ℕ} {x y sx sy n k : ℕ} {b : List ℕ} → Overlaid v s image b₀ x y sx sy n k b → n ≤ k
     → b ≡ paint v (marks (overlaid v s image x y sx sy) (run x n) y) b₀
 over_all {v} {s} {image} {b₀} {x} {y} {sx} {sy} d l = d.same ∙ ap (λ (j : ℕ). paint v (marks (overlaid v s image x y sx sy) (run x j) y) b₀) (omega (arith, d.few))
-
-pub over-length : {v s : Canvas} {image b₀ : List ℕ} {x y sx sy n k : ℕ} {b : List ℕ} → Overlaid v s image b₀ x y sx sy n k b → length b ≡ length b₀
-over-length {v} {b₀ = b₀} d = ap length d.same ∙ paint-length v _ b₀
 
 -- no row, and one row more
 pub no-rows : (v : Canvas) (f : ℕ → ℕ → ℕ → ℕ) (xs b : List ℕ) (y : ℕ) → b ≡ paint v (field f xs (run y 0)) b

@@ -6,7 +6,7 @@ use mathlib.Core.Bool.{cond}
 use Prim.Native.Nat.{◌-◌}
 use borrow.Author.Tests.{le-leb, lt-leb}
 use lib.Dec.{leb}
-use Rattle.images.proofs.copy.Moves.{screen_of, way_of, rows_none, rows_more, rows_all}
+use Rattle.images.proofs.copy.Moves.{screen_of, way_of, rows_none, rows_more}
 use Rattle.images.proofs.copy.copy_part.Goals as goal
 use Rattle.images.proofs.copy.copy_part.Goals.{then-below, else-below}
 
@@ -22,6 +22,3 @@ loop-k-preserved c =
     = elim c.if-below.branch [ then-below w ↦ rw (le-leb part.y part.sy w.if-below.true) w.at-is | else-below w ↦ rw (lt-leb part.y part.sy w.if-below.false) w.at-is ] in
     rows_more _ _ (screen_of pre.sized (λ i. search rules)) _ _ _ _ _ _ pre.placed.wide pre.placed.columns pre.placed.high pre.placed.rows
     _ (way_of part.y part.sy _ refl) _ _ _ _ l.invariant (omega arith) start c.copy_row.ensures
-
-pub returns : goal.returns
-returns c = rows_all c.loop-k.invariant (omega arith)

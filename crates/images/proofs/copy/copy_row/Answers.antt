@@ -6,7 +6,7 @@ use mathlib.Core.Bool.{cond}
 use Prim.Native.Nat.{◌-◌}
 use borrow.Author.Tests.{le-leb, lt-leb}
 use lib.Dec.{leb}
-use Rattle.images.proofs.copy.Moves.{screen_of, way_of, row_none, row_more, row_all}
+use Rattle.images.proofs.copy.Moves.{screen_of, way_of, row_none, row_more}
 use Rattle.images.proofs.copy.copy_row.Goals as goal
 use Rattle.images.proofs.copy.copy_row.Goals.{then-right, else-right}
 
@@ -23,6 +23,3 @@ loop-k-preserved c =
     = elim c.if-right.branch [ then-right w ↦ rw (le-leb a.x a.sx w.if-right.true) w.at-is | else-right w ↦ rw (lt-leb a.x a.sx w.if-right.false) w.at-is ] in
     row_more _ _ (screen_of pre.sized (λ i. search rules)) _ _ _ _ _ pre.wide pre.columns pre.high pre.rows _ (way_of a.x a.sx _ refl)
     _ m _ _ _ l.invariant (omega arith) start c.copy_chunk.ensures
-
-pub returns : goal.returns
-returns c = row_all c.loop-k.invariant (omega arith)

@@ -1,7 +1,7 @@
 -- The columns and rows that are shown, or nothing where either are none.
 use native.Mathlib.Omega.{arith}
 use mathlib.Core.Path.{◌≡◌}
-use Prim.Native.Nat.{◌-◌, ◌<◌}
+use Prim.Native.Nat.{◌-◌}
 use Rattle.std.proofs.Common.{rules, w32, Fits, SFits, ◌⊎◌, inl, inr}
 use Rattle.canvas.proofs.span.Lifts.{lift_lt, lowers}
 use Rattle.canvas.proofs.span.Sources.{shown-is}

@@ -17,6 +17,3 @@ returns-then-source-lt3 c =
     c.store_words.ensures
     ∙ solid-stores f k cs ws (λ i l. c.requires.1.solid c.if-source-lt3.true i l)
     ∙ ap (λ (t : Bool). blended f k t cs ws) (sym (not-true _ c.if-not-canvas.true))
-
-pub returns : goal.returns
-returns c = c.blend_words.ensures

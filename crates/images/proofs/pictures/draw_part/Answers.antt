@@ -1,5 +1,4 @@
 -- What is done leaves the rest of the rows as they were.
-use mathlib.Core.Path.{refl}
 use Rattle.images.proofs.pictures.Overlays.{no-rows, rows_over}
 use Rattle.images.proofs.pictures.draw_part.Goals as goal
 
