@@ -27,11 +27,7 @@ pub fn radius(arc: u32, side: u32) -> f32
 pub fn inset(radius: f32) -> u32
     ensures { result ≡ inset_of radius }
 {
-    let n = floats::round_i32(radius);
-    if n < 0 {
-        return 0;
-    }
-    n as u32
+    floats::round_i32(radius).max(0) as u32
 }
 
 // The corners of the box whose first and last columns and rows these are.

@@ -1,8 +1,8 @@
--- A float's size and sign, by the library's words and by comparisons. Assumes nothing.
-use Rattle.std.proofs.Common.{◌≡◌, ℕ, ◌+◌, ◌*◌, ◌≤◌, Bool, true, false, not, T, eqb, ltb, ℤ, refl, ap, arith, eqb→eq, ltb→lt, nltb→le, T_not, le-ltb}
-use Rattle.std.specs.Float.{is_sign_negative, float_with_sign}
-use lib.Ieee.{Float, nan, inf, fin, up, down, neg, lt, eq, ne, is_nan}
-use lib.Ieee.Fits.{and_i, and_l, eq→eqb}
+-- A float's size, by the library's word, and its sign, by comparisons: a zero's shows in its reciprocal. Assumes nothing.
+use Rattle.std.proofs.Common.{◌≡◌, ℕ, zero, suc, ◌+◌, ◌*◌, ◌<◌, ◌≤◌, Bool, true, false, not, T, eqb, ltb, ℤ, pos, sym, refl, ap, subst, zero-lt-suc, mul-pos, arith, eqb→eq, ltb→lt, nltb→le, T_not, le-ltb}
+use Rattle.std.specs.Float.{float_with_sign}
+use lib.Ieee.{Float, nan, inf, fin, binary32, up, down, neg, div, lt, eq, ne, is_nan}
+use lib.Ieee.Fits.{up_pos, and_i, and_l, eq→eqb}
 use lib.Ieee.Compare.{differs_from_itself}
 use Rattle.floats.specs.Size.{plus_zero, abs_of, sign_of}
 use Rattle.floats.proofs.Range.{none, no_less, yes, no}
@@ -34,18 +34,6 @@ abs_neg (fin true m e) h = refl
 abs_neg (fin false m e) h = absurd (none (m * up e * 1) (down e) (ltb→lt (m * up e * 1) (0 * 1 * down e) h))
 
 -- ---- the sign
-pub sign_is : (x : Float) → is_sign_negative x ≡ sign_of x
-unfolding is_sign_negative sign_of
-sign_is nan = refl
-sign_is (inf s) = refl
-sign_is (fin s m e) = refl
-
-pub sign_nan : (x : Float) → is_nan x ≡ true → false ≡ sign_of x
-unfolding is_nan sign_of
-sign_nan nan h = refl
-sign_nan (inf s) h = cc
-sign_nan (fin s m e) h = cc
-
 pub zero-size : (s : Bool) (m : ℕ) (e : ℤ) → T (eq (fin s m e) plus_zero) → m * up e ≡ 0
 unfolding eq
 zero-size s m e t = zero_times (m * up e) (down e) (eqb→eq (m * up e * 1) (0 * 1 * down e) (and_l (eqb (m * up e * 1) (0 * 1 * down e)) _ t))
@@ -63,6 +51,23 @@ is_zero m e z = and_i (eqb (m * up e * 1) (0 * 1 * down e)) (eqb (m * up e * 1) 
 
     right : (n : ℕ) → n ≡ 0 → n * 1 ≡ 0
     right n z = omega arith
+
+factor : (m u : ℕ) → 0 < u → m * u ≡ 0 → m ≡ 0
+factor zero u p e = refl
+factor (suc m) u p e = absurd (more (suc m * u) (mul-pos (zero-lt-suc m) p) e)
+  where
+    more : (n : ℕ) → 0 < n → n ≡ 0 → ⊥
+    more n p e = omega arith
+
+pub sign_zero : (x : Float) → T (eq x plus_zero) → lt (div binary32 (fin false 1 (pos 0)) x) plus_zero ≡ sign_of x
+unfolding sign_of lt div eq
+sign_zero nan h = absurd h
+sign_zero (inf s) h = absurd h
+sign_zero (fin s m e) h = subst (λ (z : ℕ). lt (div binary32 (fin false 1 (pos 0)) (fin s z e)) plus_zero ≡ s) (sym (factor m (up e) (up_pos e) (zero-size s m e h))) (go s)
+  where
+    go : (s : Bool) → lt (div binary32 (fin false 1 (pos 0)) (fin s 0 e)) plus_zero ≡ s
+    go false = refl
+    go true = refl
 
 pub sign_other : (x : Float) → T (not (eq x plus_zero)) → lt x plus_zero ≡ sign_of x
 unfolding sign_of lt

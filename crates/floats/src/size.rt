@@ -2,7 +2,7 @@
 ghost use Rattle.std.specs.Prelude.{◌≡◌};
 ghost use Rattle.floats.specs.Size.{abs_of, max_of, sign_of};
 
-// x.abs()
+// |x|
 pub fn abs(x: f32) -> f32
     ensures { result ≡ abs_of x }
 {
@@ -22,12 +22,12 @@ pub fn max(a: f32, b: f32) -> f32
     a
 }
 
-// x.is_sign_negative(), and false for a NaN.
+// x.is_sign_negative(), and false for a NaN: a zero's sign shows in its reciprocal.
 pub fn is_sign_negative(x: f32) -> bool
     ensures { result ≡ sign_of x }
 {
-    if x.is_nan() {
-        return false;
+    if x == 0.0 {
+        return 1.0 / x < 0.0;
     }
-    x.is_sign_negative()
+    x < 0.0
 }

@@ -1,5 +1,5 @@
 -- The place is taken. Assumes nothing.
-use Rattle.std.proofs.Common.{◌≡◌, ℕ, ◌+◌, ◌-◌, ◌<◌, true, sym, ap, ◌∙◌, subst, arith}
+use Rattle.std.proofs.Common.{◌≡◌, ◌+◌, ◌-◌, sym, ap, ◌∙◌, subst, arith}
 use Rattle.curves.specs.Bulges.{has_at, Run}
 use Rattle.curves.proofs.Near.{run_at}
 use Rattle.curves.proofs.bulges.outward.Goals as goal

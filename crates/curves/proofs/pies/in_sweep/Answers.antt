@@ -1,7 +1,6 @@
 -- `in_sweep` meets its contract, by its cases. Assumes nothing.
-use Rattle.std.proofs.Common.{refl, sym, ap, ◌∙◌}
+use Rattle.std.proofs.Common.{refl, ap, ◌∙◌}
 use lib.Ieee.{of_bits}
-use Rattle.curves.specs.declared.pies.Sweep.{Sweep}
 use Rattle.curves.specs.Pies.{is_all, degrees_of, in_sweep}
 use Rattle.curves.proofs.pies.in_sweep.Goals as goal
 

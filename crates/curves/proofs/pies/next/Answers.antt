@@ -1,5 +1,4 @@
 -- What is passed before the end answers otherwise.
-use Rattle.std.proofs.Common.{arith}
 use Rattle.curves.specs.Pies.{covers}
 use Rattle.curves.proofs.Runs.{passed_none, finds, passes, ends}
 use Rattle.curves.proofs.pies.next.Goals as goal

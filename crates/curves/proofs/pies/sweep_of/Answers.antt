@@ -1,5 +1,5 @@
 -- `sweep_of` meets its contract, by its cases. Assumes nothing.
-use Rattle.std.proofs.Common.{sym, refl}
+use Rattle.std.proofs.Common.{refl}
 use lib.Ieee.{of_bits}
 use Rattle.curves.specs.Pies.{sweep_of}
 use Rattle.curves.proofs.pies.sweep_of.Goals as goal

@@ -1,5 +1,5 @@
 -- `angles` meets its contract: the first j are worked out. Assumes nothing.
-use Rattle.std.proofs.Common.{◌≡◌, ℕ, ◌+◌, pos, sym, ◌∙◌, arith}
+use Rattle.std.proofs.Common.{◌≡◌, ℕ, ◌+◌, pos, arith}
 use lib.Ieee.{Float, binary32, of_int, add, mul, div}
 use Rattle.angle.specs.Stroke.{stroke_angle}
 use Rattle.curves.specs.Strokes.{angles_from}

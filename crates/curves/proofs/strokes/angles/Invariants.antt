@@ -1,5 +1,5 @@
 -- `angles` meets its contract: the first j are worked out. Assumes nothing.
-use Rattle.std.proofs.Common.{ℕ, ◌+◌, ◌-◌}
+use Rattle.std.proofs.Common.{ℕ, ◌+◌}
 use lib.Ieee.{nan}
 use Rattle.angle.specs.Stroke.{stroke_angle}
 use Rattle.curves.proofs.strokes.Sixteen.{Filled}

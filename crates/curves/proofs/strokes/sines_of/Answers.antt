@@ -1,5 +1,5 @@
 -- `sines_of` meets its contract: the first j are worked out. Assumes nothing.
-use Rattle.std.proofs.Common.{sym, ap, ◌∙◌, arith}
+use Rattle.std.proofs.Common.{ap, arith}
 use lib.Ieee.{nan}
 use Rattle.angle.specs.declared.sine.SineCosine.{SineCosine}
 use Rattle.angle.specs.Sine.{sine_of, cosine_of, sine_cosine_of}

@@ -1,5 +1,5 @@
 -- `sines_of` meets its contract: the first j are worked out. Assumes nothing.
-use Rattle.std.proofs.Common.{ℕ, ◌-◌, get_or}
+use Rattle.std.proofs.Common.{ℕ, get_or}
 use lib.Ieee.{nan}
 use Rattle.angle.specs.Sine.{sine_of, cosine_of}
 use Rattle.curves.proofs.strokes.Sixteen.{Filled}

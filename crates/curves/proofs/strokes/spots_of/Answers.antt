@@ -1,5 +1,5 @@
 -- `spots_of` meets its contract: the first j are worked out. Assumes nothing.
-use Rattle.std.proofs.Common.{sym, ◌∙◌, arith}
+use Rattle.std.proofs.Common.{arith}
 use lib.Ieee.{Float}
 use Rattle.floats.specs.Whole.{lifted}
 use Rattle.curves.specs.Strokes.{x_at, y_at}

@@ -1,5 +1,5 @@
 -- `spots_of` meets its contract: the first j are worked out. Assumes nothing.
-use Rattle.std.proofs.Common.{ℕ, ◌-◌, get_or}
+use Rattle.std.proofs.Common.{ℕ, get_or}
 use lib.Ieee.{nan}
 use Rattle.floats.specs.Whole.{lifted}
 use Rattle.curves.specs.Strokes.{x_at, y_at}

@@ -1,5 +1,5 @@
 -- `steps` meets its contract: the number is held between the two. Assumes nothing.
-use Rattle.std.proofs.Common.{◌≡◌, ℕ, ◌+◌, ◌-◌, ◌*◌, ◌/◌, ◌<◌, ◌≤◌, min, max, true, false, arith, lit≤}
+use Rattle.std.proofs.Common.{◌≡◌, ℕ, ◌+◌, ◌-◌, ◌*◌, ◌/◌, ◌≤◌, min, max, true, false, arith, lit≤}
 use native.Mathlib.Nat.{min-le_right}
 use lib.Ieee.{Float, nan, inf, fin, up, down, binary32, mul, of_bits}
 use Rattle.floats.specs.Size.{one, abs_of, max_of}

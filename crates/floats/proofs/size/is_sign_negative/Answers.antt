@@ -1,10 +1,13 @@
--- `is_sign_negative` meets its contract: but for a NaN it is the library's. Assumes nothing.
-use Rattle.std.proofs.Common.{sym, ◌∙◌}
-use Rattle.floats.proofs.Signs.{sign_nan, sign_is}
+-- `is_sign_negative` meets its contract: a zero's sign by its reciprocal, any other's by comparison. Assumes nothing.
+use lib.Ieee.{of_bits}
+use Rattle.floats.proofs.Range.{yes, no}
+use Rattle.floats.proofs.Signs.{sign_zero, sign_other}
 use Rattle.floats.proofs.size.is_sign_negative.Goals as goal
 
-pub returns-then-is_nan : goal.returns-then-is_nan
-returns-then-is_nan c = sign_nan c.args.x (sym c.is_nan.ensures.value ∙ c.if-is_nan.true)
+pub returns-then-x : goal.returns-then-x
+unfolding of_bits
+returns-then-x c = sign_zero c.args.x (yes c.if-x.true)
 
 pub returns : goal.returns
-returns c = c.is_sign_negative.ensures ∙ sign_is c.args.x
+unfolding of_bits
+returns c = sign_other c.args.x (no c.if-x.false)
