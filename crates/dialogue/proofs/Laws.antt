@@ -14,7 +14,7 @@ starts : (s : List ℕ) (n : ℕ) → n ≤ length (first_line s) → OneLine (t
 starts s n h =
     let long = length-prefix_len (λ b. not (b == 10)) s in
     let passes : (k : ℕ) → k < n → not (get_or (take n s) k 0 == 10) ≡ true =
-      λ k l. rw (get_or-take n s k 0 l) (prefix_len_passes (λ b. not (b == 10)) s k 0 (omega arith)) in
+    λ k l. rw (get_or-take n s k 0 l) (prefix_len_passes (λ b. not (b == 10)) s k 0 (omega arith)) in
     let e : length (take n s) ≡ n = length-take-le n s (omega (arith, shorter s)) in
     rw (prefix_len_is (λ b. not (b == 10)) (take n s) n 0 (omega arith) passes (λ l. absurd (omega arith)), take-take n n s (omega arith))
 

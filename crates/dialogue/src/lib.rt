@@ -79,18 +79,12 @@ fn keep(text: &mut [u8], p: Place) -> usize
 
 // Reads behind what is kept until a line is whole. At the end of the input what is held is a line without its end, or there is
 // none. A proved loop has to end, so it counts its turns, up to a number that no run uses up.
-fn wait<R: Read>(
-    input: &mut R,
-    text: &mut [u8],
-    mut kept: usize,
-) -> Result<Option<Place>, Stop>
+fn wait<R: Read>(input: &mut R, text: &mut [u8], mut kept: usize) -> Result<Option<Place>, Stop>
     requires { kept ≤ length text.old }
     ensures { IfOk result (λ p. IfSome p (λ q. Stands q text.new [])) }
 {
     for _ in 0..u64::MAX {
-        let n = input
-            .read(&mut text[kept..])
-            .map_err(|_| Stop::Unread)?;
+        let n = input.read(&mut text[kept..]).map_err(|_| Stop::Unread)?;
         let held = kept + n;
         if held == 0 {
             return Ok(None);
