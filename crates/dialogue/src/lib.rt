@@ -2,201 +2,109 @@
 // of which a place says how much is read and where its line is, and out, of which a place says how much is used.
 #![tactic(auto)]
 
-ghost use Rattle.std.specs.Prelude.{◌≡◌, ◌≤◌, ◌-◌, min, [], length, take};
-ghost use Rattle.std.proofs.Math.Seq.{slice, paste};
-ghost use Rattle.dialogue.specs.Line.{first_line, OneLine, Stands, top, start, ahead, Follows};
+ghost use Rattle.std.specs.Prelude.{◌≡◌, ◌+◌, ◌-◌, ◌≤◌, [], length, IfOk, IfSome};
+ghost use Rattle.std.specs.List.{copy_within};
+ghost use Rattle.dialogue.specs.Line.{first_line, Stands, top, start, ahead, Follows};
 
+use std::error::Error;
+use std::fmt;
 use std::io::{Read, Write};
 
-// What is at a place: a line, the end of the input, or what could not be done.
-#[derive(Clone, Copy)]
-pub enum Turn {
-    Line,
-    End,
+// What could not be done.
+#[derive(Clone, Copy, Debug, PartialEq, Eq)]
+pub enum Stop {
     Unread,
     Unwritten,
 }
 
-#[derive(Clone, Copy)]
+impl fmt::Display for Stop {
+    fn fmt<W: fmt::Write>(&self, f: &mut fmt::Formatter<W>) -> fmt::Result {
+        match self {
+            Stop::Unread => write!(f, "input can't be read"),
+            Stop::Unwritten => write!(f, "output can't be written"),
+        }
+    }
+}
+
+impl Error for Stop {}
+
+// Where a line is, and how much of the text is held and of out is used. A program begins at the default.
+#[derive(Clone, Copy, Debug, Default)]
 pub struct Place {
-    pub turn: Turn,
     pub at: usize,
     pub end: usize,
     pub held: usize,
     pub used: usize,
 }
 
-// Where a program begins.
-pub const START: Place = Place {
-    turn: Turn::Line,
-    at: 0,
-    end: 0,
-    held: 0,
-    used: 0,
-};
-
 // As much of a line is kept as tells that it is longer than any that is read.
 const KEPT: usize = 65538;
 
-// The smaller of two numbers.
-fn least(a: usize, b: usize) -> usize
-    ensures { result ≡ min a b }
-{
-    if a < b {
-        return a;
-    }
-    b
-}
-
 // How long the first line of a text is.
 fn first_line(text: &[u8]) -> usize
-    ensures { (result ≡ length (first_line text.now)) × (result ≤ length text.now) }
+    ensures { result ≡ length (first_line text.now) }
 {
-    let mut i = 0;
-    while i < text.len() {
-        if text[i] == 10 {
-            return i;
-        }
-        i += 1;
-    }
-    i
+    text.iter().take_while(|&&b| b != b'\n').count()
 }
 
-// Moves a part of the text to the text's start, as much of it as is kept, and answers how much that is.
-fn keep(text: &mut [u8], at: usize, held: usize) -> usize
-    requires { (at ≤ held) × (held ≤ length text.old) }
-    ensures { (result ≤ held - at) × (text.new ≡ paste text.old 0 (slice at held text.old) result) }
+// The line behind the last one, as much of it as is held. No place is beyond the text and out.
+fn found(text: &[u8], out: &[u8], last: Place) -> Place
+    ensures stands { Stands result text.now out.now }
+    ensures held { result.held ≡ top last text.now }
+    ensures at { result.at ≡ start last text.now }
+    ensures end { result.end ≡ ahead last text.now }
 {
-    let n = least(held - at, KEPT);
-    let mut i = 0;
-    while i < n {
-        text[i] = text[at + i];
-        i += 1;
-    }
-    n
-}
-
-// What is kept of the text, how much is held with what was read behind it, and whether reading failed.
-#[derive(Clone, Copy)]
-struct Filled {
-    kept: usize,
-    held: usize,
-    failed: bool,
-}
-
-// Keeps a part of the text, at its start, and reads behind it, once.
-fn refill<R: Read>(input: &mut R, text: &mut [u8], at: usize, held: usize) -> Filled
-    requires { (at ≤ held) × ((held ≤ length text.old) × OneLine (slice at held text.old)) }
-    ensures { (result.kept ≤ result.held) × ((result.held ≤ length text.old) × OneLine (take result.kept text.new)) }
-{
-    let kept = keep(text, at, held);
-    match input.read(&mut text[kept..]) {
-        Ok(n) => Filled {
-            kept,
-            held: kept + n,
-            failed: false,
-        },
-        Err(_) => Filled {
-            kept,
-            held: kept,
-            failed: true,
-        },
-    }
-}
-
-// What no more is read after: nothing is held.
-fn stop(turn: Turn) -> Place
-    ensures { (result.at ≡ 0) × ((result.end ≡ 0) × ((result.held ≡ 0) × ((result.used ≡ 0) × (result.turn ≡ turn)))) }
-{
-    Place {
-        turn,
-        at: 0,
-        end: 0,
-        held: 0,
-        used: 0,
-    }
-}
-
-// At the end of the input what is held is a line without its end, or there is none.
-fn last_line(n: usize, failed: bool) -> Place
-    ensures { (result.at ≡ 0) × ((result.end ≤ n) × ((result.held ≡ result.end) × (result.used ≡ 0))) }
-{
-    if failed {
-        return stop(Turn::Unread);
-    }
-    if n == 0 {
-        return stop(Turn::End);
-    }
-    Place {
-        turn: Turn::Line,
-        at: 0,
-        end: n,
-        held: n,
-        used: 0,
-    }
-}
-
-// Reads until a line is whole. A proved loop has to end, so it counts its turns down from a number that no run uses up.
-fn wait<R: Read>(input: &mut R, text: &mut [u8], from: usize, to: usize) -> Place
-    requires { (from ≤ to) × ((to ≤ length text.old) × OneLine (slice from to text.old)) }
-    ensures { Stands result text.new [] }
-{
-    let mut at = from;
-    let mut held = to;
-    let mut left = u64::MAX;
-    while 0 < left {
-        let f = refill(input, text, at, held);
-        let n = f.held;
-        if f.failed | (f.kept == n) {
-            return last_line(f.kept, f.failed);
-        }
-        let end = first_line(&text[..n]);
-        if end < n {
-            return Place {
-                turn: Turn::Line,
-                at: 0,
-                end,
-                held: n,
-                used: 0,
-            };
-        }
-        at = 0;
-        held = n;
-        left -= 1;
-    }
-    stop(Turn::End)
-}
-
-// The line behind the last one, as much of it as is held. No place is beyond the text and out, which has so many bytes.
-fn found(text: &[u8], last: Place, most: usize) -> Place
-    ensures { (result.at ≤ result.end) × ((result.end ≤ result.held) × ((result.held ≤ length text.now) × ((result.used ≤ most) × (OneLine (slice result.at result.end text.now) × ((result.held ≡ top last text.now) × ((result.at ≡ start last text.now) × (result.end ≡ ahead last text.now))))))) }
-{
-    let held = least(last.held, text.len());
-    let at = least(least(last.end, held) + 1, held);
+    let held = last.held.min(text.len());
+    let at = last.end.saturating_add(1).min(held);
     let n = first_line(&text[at..held]);
     Place {
-        turn: Turn::Line,
         at,
         end: at + n,
         held,
-        used: least(last.used, most),
+        used: last.used.min(out.len()),
     }
 }
 
-// Writes all of out, or stops at the first write that takes nothing or fails.
-fn write_whole<W: Write>(output: &mut W, out: &[u8]) -> bool {
-    let mut done = 0;
-    while done < out.len() {
-        match output.write(&out[done..]) {
-            Ok(0) | Err(_) => return false,
-            Ok(n) => done += n,
+// Moves what is held from a place's line on to the text's start, as much of it as is kept, and answers how much that is.
+fn keep(text: &mut [u8], p: Place) -> usize
+    requires order { p.at ≤ p.held }
+    requires within { p.held ≤ length text.old }
+    ensures kept { result ≤ p.held - p.at }
+    ensures moved { text.new ≡ copy_within text.old p.at (p.at + result) 0 }
+{
+    let n = (p.held - p.at).min(KEPT);
+    text.copy_within(p.at..p.at + n, 0);
+    n
+}
+
+// Reads behind what is kept until a line is whole. At the end of the input what is held is a line without its end, or there is
+// none. A proved loop has to end, so it counts its turns, up to a number that no run uses up.
+fn wait<R: Read>(input: &mut R, text: &mut [u8], mut kept: usize) -> Result<Option<Place>, Stop>
+    requires { kept ≤ length text.old }
+    ensures { IfOk result (λ p. IfSome p (λ q. Stands q text.new [])) }
+{
+    for _ in 0..u64::MAX {
+        let n = input.read(&mut text[kept..]).map_err(|_| Stop::Unread)?;
+        let held = kept + n;
+        if held == 0 {
+            return Ok(None);
         }
+        let end = first_line(&text[..held]);
+        if n == 0 || end < held {
+            return Ok(Some(Place {
+                at: 0,
+                end,
+                held,
+                used: 0,
+            }));
+        }
+        kept = held.min(KEPT);
     }
-    true
+    Ok(None)
 }
 
-// The line behind the last one. Where none is whole, or less than so much room is left in out, what is used of out is written
-// first; then more is read.
+// The line behind the last one, or none at the end of the input. Where none is whole, or less than so much room is left in out,
+// what is used of out is written first; then more is read.
 pub fn next<R: Read, W: Write>(
     input: &mut R,
     output: &mut W,
@@ -204,27 +112,21 @@ pub fn next<R: Read, W: Write>(
     out: &[u8],
     last: Place,
     room: usize,
-) -> Place
-    ensures stands { Stands result text.new out.now }
-    ensures follows { Follows last result text.old text.new }
+) -> Result<Option<Place>, Stop>
+    ensures stands { IfOk result (λ p. IfSome p (λ q. Stands q text.new out.now)) }
+    ensures follows { IfOk result (λ p. IfSome p (λ q. Follows last q text.old text.new)) }
 {
-    let p = found(text, last, out.len());
+    let p = found(text, out, last);
     let whole = p.end < p.held;
-    let used = p.used;
-    if whole & (room <= out.len() - used) {
-        return p;
+    if whole && room <= out.len() - p.used {
+        return Ok(Some(p));
     }
-    if !write_whole(output, &out[..used]) {
-        return stop(Turn::Unwritten);
-    }
+    output
+        .write_all(&out[..p.used])
+        .map_err(|_| Stop::Unwritten)?;
     if whole {
-        return Place {
-            turn: Turn::Line,
-            at: p.at,
-            end: p.end,
-            held: p.held,
-            used: 0,
-        };
+        return Ok(Some(Place { used: 0, ..p }));
     }
-    wait(input, text, p.at, p.held)
+    let kept = keep(text, p);
+    wait(input, text, kept)
 }

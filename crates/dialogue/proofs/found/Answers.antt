@@ -1,23 +1,18 @@
 -- The line ends with the first line of what is held.
-use mathlib.Core.Path.{◌≡◌}
-use Prim.Native.Nat.{◌≤◌}
-use native.Mathlib.Omega.{arith}
-use lib.ListN.{length}
-use Rattle.dialogue.specs.Line.{start}
-use Rattle.dialogue.proofs.Laws.{line_at, ends}
+use Rattle.std.proofs.Common.{ℕ, ◌-◌, arith, refl}
+use Rattle.std.proofs.Math.ListN.{length-take}
+use Rattle.dialogue.proofs.Laws.{shorter, line_at}
 use Rattle.dialogue.proofs.found.Goals as goal
 
-pub returns : goal.returns
-returns c =
-    let a = c.args in
-    let held = c.least-held in
-    let end = c.least in
-    let at = c.least-at in
-    let used = c.least-2 in
-    let f = c.first_line-n in
-    let order : at.result ≤ held.result = omega (arith, at.ensures) in
-    let fits : held.result ≤ length a.text.now = omega (arith, held.ensures) in
-    let from : at.result ≡ start a.last a.text.now = omega (arith, held.ensures, end.ensures, at.ensures) in
-    let line = line_at a.text.now at.result held.result f.result order fits f.ensures.0 in
-    let to = ends a.last a.text.now at.result held.result f.result order fits held.ensures from f.ensures.0 in
-    (omega arith, (omega (arith, at.ensures, f.ensures.1), (fits, (omega (arith, used.ensures), (line, (held.ensures, (from, to)))))))
+pub returns-clause-stands : goal.returns-clause-stands
+returns-clause-stands c =
+    let held = c.min-held in
+    let at = c.min-at in
+    let n = c.first_line-n in
+    record {
+      first = omega arith;
+      last = omega (arith, at.ensures, n.ensures, shorter, length-take {A = ℕ});
+      within = omega (arith, held.ensures);
+      room = omega (arith, c.min.ensures);
+      line = line_at _ at.result (held.result - at.result) n.result _ (omega (arith, n.ensures)) refl;
+    }

@@ -1,9 +1,0 @@
--- What is written so far lies within out.
-use Rattle.std.proofs.Common.{◌-◌, ◌≤◌, length}
-use Rattle.dialogue.proofs.write_whole.Given as goal
-
-abbrev pub invariant-loop-done : goal.invariant-loop-done
-invariant-loop-done g l = l.done ≤ length l.out
-
-abbrev pub decreases-loop-done : goal.decreases-loop-done
-decreases-loop-done g l = length l.out - l.done
