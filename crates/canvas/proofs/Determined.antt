@@ -149,8 +149,8 @@ shown_in_determined κs a s s' r r' p q = p ∙ sym q
 pub is_empty_determined : (κs : _) (a : _) (s s' : _) (r r' : _) → is_empty.Post κs a r s → is_empty.Post κs a r' s' → r ≡ r'
 is_empty_determined κs a s s' r r' p q = p ∙ sym q
 
-pub dab_determined : (n : _) (f : _) (κs : _) (a : _) (s s' : _) (r r' : _) → dab.Post n f κs a r s → dab.Post n f κs a r' s' → (r ≡ r') × (s.1.0.now ≡ s'.1.0.now)
-dab_determined n f κs a s s' r r' p q = worked_same s.1.0.now s'.1.0.now r r' (p ∙ sym q)
+pub dab_determined : (κs : _) (a : _) (s s' : _) (r r' : _) → dab.Post κs a r s → dab.Post κs a r' s' → (r ≡ r') × (s.1.0.now ≡ s'.1.0.now)
+dab_determined κs a s s' r r' p q = worked_same s.1.0.now s'.1.0.now r r' (p ∙ sym q)
 
 pub fill_in_determined : (κs : _) (a : _) (s s' : _) (r r' : _) → fill_in.Post κs a r s → fill_in.Post κs a r' s' → (r ≡ r') × (s.1.0.now ≡ s'.1.0.now)
 fill_in_determined κs a s s' r r' p q = worked_same s.1.0.now s'.1.0.now r r' (p.same ∙ sym q.same)

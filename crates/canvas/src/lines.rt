@@ -129,23 +129,24 @@ fn advance(w: Way, s: Pen) -> Pen
 }
 
 // The walk: it plots where it stands, and stops on the second end.
-fn walk<const N: usize>(
+fn walk(
     canvas: Canvas,
     b: &mut [u8],
     xs: Span,
     ys: Span,
+    n: usize,
     way: Way,
     from: Pen,
     ink: Ink,
     t0: Tally,
 ) -> Tally
-    requires { (Sized canvas b.old) × ((Fields canvas xs ys) × ((N ≡ size canvas) × ((Goes way from) × (t0.landed < 9223372036854775808)))) }
+    requires { (Sized canvas b.old) × ((Fields canvas xs ys) × ((n ≡ size canvas) × ((Goes way from) × (t0.landed < 9223372036854775808)))) }
     ensures { work b.new result ≡ dabs canvas xs ys (inked ink) (trail way (ahead way from) from) (work b.old t0) }
 {
     let mut t = t0;
     let mut s = from;
     loop {
-        t = dab::<N>(canvas, b, xs, ys, s.x, s.y, ink, t);
+        t = dab(canvas, b, xs, ys, n, s.x, s.y, ink, t);
         if s.x == way.x {
             if s.y == way.y {
                 break;
@@ -167,9 +168,9 @@ fn segment_in(canvas: Canvas, b: &mut [u8], s: Segment, ink: Ink, clip: Clip, t:
     let ys = window(clip.y, clip.height, canvas.height);
     let f = canvas.format;
     match f {
-        0 => walk::<1>(canvas, b, xs, ys, way, from, ink, t),
-        1 => walk::<2>(canvas, b, xs, ys, way, from, ink, t),
-        _ => walk::<4>(canvas, b, xs, ys, way, from, ink, t),
+        0 => walk(canvas, b, xs, ys, 1, way, from, ink, t),
+        1 => walk(canvas, b, xs, ys, 2, way, from, ink, t),
+        _ => walk(canvas, b, xs, ys, 4, way, from, ink, t),
     }
 }
 

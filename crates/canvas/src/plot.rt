@@ -3,7 +3,8 @@ ghost use Rattle.std.specs.Prelude.{◌≡◌, ◌≤◌, [], ◌∷◌};
 ghost use Rattle.words.specs.Ink.{inked};
 ghost use Rattle.canvas.specs.Plot.{at, plot, on_canvas};
 ghost use Rattle.canvas.specs.Call.{put_pixel, leaves, call};
-ghost use Rattle.pixels.specs.Bytes.{size, Sized};
+ghost use Rattle.pixels.specs.Bytes.{size, On, Sized};
+ghost use Rattle.pixels.specs.Hits.{hit, touch};
 ghost use Rattle.canvas.specs.Walk.{lowered, plus, work, covers, dabbed, Fields, Fits, Ready, Did};
 
 use crate::faults::judge;
@@ -31,18 +32,32 @@ fn is_covered(s: Span, p: u64) -> bool
     past < (s.to - s.from) as u64
 }
 
-// A plot at a lifted point that can land on some columns and rows alone, of a word of N bytes.
-pub fn dab<const N: usize>(
+// The word of a pixel, inked, by the bytes of a word.
+fn touch_by(canvas: Canvas, b: &mut [u8], n: usize, x: usize, y: usize, ink: Ink)
+    requires { (Sized canvas b.old) × ((On canvas x y) × (n ≡ size canvas)) }
+    ensures { b.new ≡ touch canvas b.old (hit (inked ink) x y) }
+{
+    match n {
+        1 => pixels::bytes::touch_by::<1>(canvas, b, x, y, ink),
+        2 => pixels::bytes::touch_by::<2>(canvas, b, x, y, ink),
+        _ => pixels::bytes::touch_by::<4>(canvas, b, x, y, ink),
+    }
+}
+
+// A plot at a lifted point that can land on some columns and rows alone. The bytes of a word, n, are a literal in each
+// caller, and the choice by them falls away where the compiler takes the caller's loop into its arms.
+pub fn dab(
     canvas: Canvas,
     b: &mut [u8],
     xs: Span,
     ys: Span,
+    n: usize,
     p: u64,
     q: u64,
     ink: Ink,
     t: Tally,
 ) -> Tally
-    requires { (Sized canvas b.old) × ((Fields canvas xs ys) × ((N ≡ size canvas) × (Fits (plus t 1)))) }
+    requires { (Sized canvas b.old) × ((Fields canvas xs ys) × ((n ≡ size canvas) × (Fits (plus t 1)))) }
     ensures { work b.new result ≡ dabbed canvas xs ys (inked ink) (at (lowered p) (lowered q)) (work b.old t) }
 {
     if !is_covered(xs, p) {
@@ -53,7 +68,7 @@ pub fn dab<const N: usize>(
     }
     let x = (p - 2147483648) as usize;
     let y = (q - 2147483648) as usize;
-    pixels::bytes::touch_by::<N>(canvas, b, x, y, ink);
+    touch_by(canvas, b, n, x, y, ink);
     landed_more(t, 1)
 }
 

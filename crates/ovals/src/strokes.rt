@@ -23,52 +23,30 @@ use pixels::Canvas;
 use pixels::rows::Span;
 use words::{Color, Ink};
 
-// The plots of m points, whose columns and rows are given, lifted: of words of N bytes.
-fn dab_spots_by<const N: usize>(
-    canvas: Canvas,
-    b: &mut [u8],
-    xs: Span,
-    ys: Span,
-    ps: &[u32],
-    qs: &[u32],
-    m: usize,
-    ink: Ink,
-    t0: Tally,
-) -> Tally
-    requires sized { (Sized canvas b.old) × ((Fields canvas xs ys) × ((N ≡ size canvas) × (m ≤ 16))) }
-    requires ps_len { (length ps.now ≡ 16) × ((length qs.now ≡ 16) × (Fits (plus t0 m))) }
-    ensures { work b.new result ≡ dabs canvas xs ys (inked ink) (spots_at ps.now qs.now 0 m) (work b.old t0) }
-{
-    let mut t = t0;
-    let mut j = 0;
-    while j < m {
-        t = dab::<N>(canvas, b, xs, ys, ps[j] as u64, qs[j] as u64, ink, t);
-        j = j + 1;
-    }
-    t
-}
-
 // The plots of m points, whose columns and rows are given, lifted.
 fn dab_spots(
     canvas: Canvas,
     b: &mut [u8],
     xs: Span,
     ys: Span,
+    n: usize,
     ps: &[u32],
     qs: &[u32],
     m: usize,
     ink: Ink,
-    t: Tally,
+    t0: Tally,
 ) -> Tally
-    requires sized { (Sized canvas b.old) × ((Fields canvas xs ys) × (m ≤ 16)) }
-    requires ps_len { (length ps.now ≡ 16) × ((length qs.now ≡ 16) × (Fits (plus t m))) }
-    ensures { work b.new result ≡ dabs canvas xs ys (inked ink) (spots_at ps.now qs.now 0 m) (work b.old t) }
+    requires sized { (Sized canvas b.old) × ((Fields canvas xs ys) × ((n ≡ size canvas) × (m ≤ 16))) }
+    requires ps_len { (length ps.now ≡ 16) × ((length qs.now ≡ 16) × (Fits (plus t0 m))) }
+    ensures { work b.new result ≡ dabs canvas xs ys (inked ink) (spots_at ps.now qs.now 0 m) (work b.old t0) }
 {
-    match canvas.format {
-        0 => dab_spots_by::<1>(canvas, b, xs, ys, ps, qs, m, ink, t),
-        1 => dab_spots_by::<2>(canvas, b, xs, ys, ps, qs, m, ink, t),
-        _ => dab_spots_by::<4>(canvas, b, xs, ys, ps, qs, m, ink, t),
+    let mut t = t0;
+    let mut j = 0;
+    while j < m {
+        t = dab(canvas, b, xs, ys, n, ps[j] as u64, qs[j] as u64, ink, t);
+        j = j + 1;
     }
+    t
 }
 
 // So many, and 16 at most.
@@ -81,14 +59,13 @@ fn up_to_16(n: u32) -> u32
     16
 }
 
-// The plots of a stroke of so many steps, the first and the last included, 16 at a time. Taken into its caller, its loops have
-// fewer registers, and a plot takes four instructions more.
-#[inline(never)]
+// The plots of a stroke of so many steps, the first and the last included, 16 at a time.
 fn stroke_steps(
     canvas: Canvas,
     b: &mut [u8],
     xs: Span,
     ys: Span,
+    n: usize,
     o: Oval,
     start: f32,
     sweep: f32,
@@ -96,7 +73,7 @@ fn stroke_steps(
     ink: Ink,
     t0: Tally,
 ) -> Tally
-    requires { (Sized canvas b.old) × ((Fields canvas xs ys) × ((steps ≤ 1048544) × (t0.landed < 9223372036854775808))) }
+    requires { (Sized canvas b.old) × ((Fields canvas xs ys) × ((n ≡ size canvas) × ((steps ≤ 1048544) × (t0.landed < 9223372036854775808)))) }
     ensures { work b.new result ≡ dabs canvas xs ys (inked ink) (stroke_from o start sweep steps 0 (suc steps)) (work b.old t0) }
 {
     let mut ps = [0u32; 16];
@@ -106,7 +83,7 @@ fn stroke_steps(
     while i <= steps {
         curves::strokes::spots_from(o, start, sweep, i, steps, &mut ps, &mut qs);
         let m = up_to_16(steps + 1 - i);
-        t = dab_spots(canvas, b, xs, ys, &ps, &qs, m as usize, ink, t);
+        t = dab_spots(canvas, b, xs, ys, n, &ps, &qs, m as usize, ink, t);
         i = i + m;
     }
     t
@@ -129,7 +106,12 @@ pub(crate) fn stroke_in(
     let xs = window(clip.x, clip.width, canvas.width);
     let ys = window(clip.y, clip.height, canvas.height);
     let steps = curves::strokes::steps(o, sweep, canvas.width, canvas.height) as u32;
-    stroke_steps(canvas, b, xs, ys, o, start, sweep, steps, ink, t)
+    let f = canvas.format;
+    match f {
+        0 => stroke_steps(canvas, b, xs, ys, 1, o, start, sweep, steps, ink, t),
+        1 => stroke_steps(canvas, b, xs, ys, 2, o, start, sweep, steps, ink, t),
+        _ => stroke_steps(canvas, b, xs, ys, 4, o, start, sweep, steps, ink, t),
+    }
 }
 
 // The plots of an arc, whose angles are in degrees.

@@ -94,6 +94,10 @@ four_bytes (suc (suc (suc zero))) l h0 h1 = refl
 four_bytes (suc (suc (suc (suc zero)))) l h0 h1 = refl
 four_bytes (suc (suc (suc (suc (suc n))))) l h0 h1 = absurd (omega arith)
 
+-- a word has one, two or four
+pub sized_four : (v : Canvas) (n : ℕ) → v.format ≤ 4 → n ≡ size v → (n ≡ 1 → ⊥) → (n ≡ 2 → ⊥) → size v ≡ 4
+sized_four v n l e h1 h2 = four_bytes v.format l (λ z. h1 (e ∙ one_byte v.format z)) (λ z. h2 (e ∙ two_bytes v.format z))
+
 bytes_le : (f : Format) → bytes_per_pixel f ≤ 4
 unfolding bytes_per_pixel
 bytes_le rgb332 = omega arith

@@ -6,7 +6,7 @@ use Rattle.canvas.proofs.lines.Loops.{OnWay}
 use Rattle.canvas.proofs.lines.walk.Given as goal
 
 abbrev pub invariant-loop-s : goal.invariant-loop-s
-invariant-loop-s g l = OnWay l.canvas l.xs l.ys (inked l.ink) l.way l.s (work l.b l.t) (trail l.way (ahead l.way l.initial.s) l.initial.s) (work l.initial.b l.initial.t)
+invariant-loop-s l = OnWay l.canvas l.xs l.ys (inked l.ink) l.way l.s (work l.b l.t) (trail l.way (ahead l.way l.initial.s) l.initial.s) (work l.initial.b l.initial.t)
 
 abbrev pub decreases-loop-s : goal.decreases-loop-s
-decreases-loop-s g l = ahead l.way l.s
+decreases-loop-s l = ahead l.way l.s

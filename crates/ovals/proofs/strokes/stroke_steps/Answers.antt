@@ -13,10 +13,10 @@ pub loop-i-init : goal.loop-i-init
 loop-i-init c = let a = c.args in stroking_start a.o a.start a.sweep a.steps
 
 pub spots_from-requires : goal.spots_from-requires
-spots_from-requires c = omega (arith, c.loop-i-test.true, c.requires.1.1.0)
+spots_from-requires c = omega (arith, c.loop-i-test.true, c.requires.1.1.1.0)
 
 pub overflow_add-steps : goal.overflow_add-steps
-overflow_add-steps c = record { fits = omega (arith, c.requires.1.1.0) }
+overflow_add-steps c = record { fits = omega (arith, c.requires.1.1.1.0) }
 
 pub overflow_sub-steps : goal.overflow_sub-steps
 overflow_sub-steps c = omega (arith, c.loop-i-test.true)
@@ -35,19 +35,19 @@ dab_spots-t-requires c =
     let p = c.args in
     let k = c.spots_from.ensures in
     record {
-      sized = (sized-length (dabbing_length l.invariant.rest) c.requires.0, (c.requires.1.0, few));
+      sized = (sized-length (dabbing_length l.invariant.rest) c.requires.0, (c.requires.1.0, (c.requires.1.1.0, few)));
       ps_len = (
         all p.o p.start p.sweep p.steps l.i (λ (t : Spot). lifted t.x) k.0,
         (
           all p.o p.start p.sweep p.steps l.i (λ (t : Spot). lifted t.y) k.1,
-          stroking_room p.o p.start p.sweep p.steps m.result c.requires.1.1.0 c.requires.1.1.1 few l.invariant,
+          stroking_room p.o p.start p.sweep p.steps m.result c.requires.1.1.1.0 c.requires.1.1.1.1 few l.invariant,
         ),
       );
     }
 
 pub overflow_add-i : goal.overflow_add-i
 overflow_add-i c =
-    record { fits = omega (arith, c.up_to_16-m.ensures, c.loop-i-test.true, c.requires.1.1.0) }
+    record { fits = omega (arith, c.up_to_16-m.ensures, c.loop-i-test.true, c.requires.1.1.1.0) }
 
 pub loop-i-smaller : goal.loop-i-smaller
 loop-i-smaller c =

@@ -1,7 +1,6 @@
 -- The words before i are taken.
 use native.Mathlib.Omega.{arith}
 use Prim.Native.Nat.{◌+◌}
-use Rattle.pixels.proofs.bytes.Pixels.{bounded}
 use Rattle.pixels.proofs.bytes.Places.{word_le, scaled-le, in_place}
 use Rattle.pixels.proofs.chunks.Chunks.{filled_none, filled_more, filled_all}
 use Rattle.pixels.proofs.chunks.take_by.Goals as goal

@@ -3,10 +3,10 @@ use Rattle.std.proofs.Common.{◌-◌}
 use Rattle.words.specs.Ink.{inked}
 use Rattle.canvas.specs.Walk.{work}
 use Rattle.ovals.proofs.strokes.Stroking.{Spotting}
-use Rattle.ovals.proofs.strokes.dab_spots_by.Given as goal
+use Rattle.ovals.proofs.strokes.dab_spots.Given as goal
 
 abbrev pub invariant-loop-j : goal.invariant-loop-j
-invariant-loop-j g l = Spotting l.ps l.qs l.canvas l.xs l.ys (inked l.ink) l.m l.j (work l.b l.t) (work l.initial.b l.initial.t)
+invariant-loop-j l = Spotting l.ps l.qs l.canvas l.xs l.ys (inked l.ink) l.m l.j (work l.b l.t) (work l.initial.b l.initial.t)
 
 abbrev pub decreases-loop-j : goal.decreases-loop-j
-decreases-loop-j g l = l.m - l.j
+decreases-loop-j l = l.m - l.j
