@@ -66,13 +66,7 @@ fn sines_of(ts: &[f32; 16], ss: &mut [f32; 16], cs: &mut [f32; 16])
 }
 
 // The points of 16 sines and cosines, lifted.
-fn spots_of(
-    o: Oval,
-    ss: &[f32; 16],
-    cs: &[f32; 16],
-    ps: &mut [u32; 16],
-    qs: &mut [u32; 16],
-)
+fn spots_of(o: Oval, ss: &[f32; 16], cs: &[f32; 16], ps: &mut [u32; 16], qs: &mut [u32; 16])
     ensures ps_after { ps.new ≡ map (λ c. lifted (x_at o c)) cs.now }
     ensures qs_after { qs.new ≡ map (λ s. lifted (y_at o s)) ss.now }
 {
