@@ -82,14 +82,6 @@ module _ (o : Oval) (start sweep : Float) (steps : ℕ) where
       → spots_at ps qs 0 m ≡ stroke_from o start sweep steps i m
   sixteen i e f m l = ap₂ (λ (ps qs : List ℕ). spots_at ps qs 0 m) e f ∙ points i 16 m l
 
-  spots-long : (i n : ℕ) → length (spots_from o start sweep steps i n) ≡ n
-  unfolding spots_from
-  spots-long i zero = refl
-  spots-long i (suc n) = ap suc (spots-long (suc i) n)
-
-  pub all : (i : ℕ) (g : Spot → ℕ) {ps : List ℕ} → ps ≡ map g (spots_from o start sweep steps i 16) → length ps ≡ 16
-  all i g e = ap length e ∙ length-map (spots_from o start sweep steps i 16) g ∙ spots-long i 16
-
   -- m of them, and then r
   parts : (v : Canvas) (xs ys : Span) (f : ℕ → ℕ) (m i r : ℕ) (w : Work)
       → dabs v xs ys f (stroke_from o start sweep steps i (m + r)) w ≡ dabs v xs ys f (stroke_from o start sweep steps (i + m) r) (dabs v xs ys f (stroke_from o start sweep steps i m) w)
