@@ -70,12 +70,10 @@ fn stroke_steps(
     let mut ps = [0u32; 16];
     let mut qs = [0u32; 16];
     let mut t = t0;
-    let mut i = 0u32;
-    while i <= steps {
+    for i in (0..=steps).step_by(16) {
         curves::strokes::spots_from(o, start, sweep, i, steps, &mut ps, &mut qs);
         let m = (steps + 1 - i).min(16);
         t = dab_spots(canvas, b, xs, ys, n, &ps, &qs, m as usize, ink, t);
-        i += m;
     }
     t
 }
