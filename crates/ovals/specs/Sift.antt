@@ -5,11 +5,14 @@ use Rattle.angle.specs.Stroke.{radians}
 use Rattle.curves.specs.declared.corners.Corners.{Corners}
 use Rattle.curves.specs.Corners.{corner_of}
 use Rattle.curves.specs.declared.bulges.Side.{Side}
-use Rattle.curves.specs.Bulges.{part_on, has_at}
+use Rattle.curves.specs.Bulges.{part_on, has_at, Sided}
 use Rattle.curves.specs.declared.pies.Pie.{Pie}
 use Rattle.curves.specs.Pies.{is_all, degrees_of, covers, Asked}
 use Rattle.pixels.specs.declared.Canvas.{Canvas}
 use Rattle.canvas.specs.Plot.{Point, at}
+use Rattle.canvas.specs.Boxes.{side}
+use Rattle.ovals.specs.declared.runs.Region.{Region}
+use Rattle.ovals.specs.Curves.{sieve}
 use Rattle.ovals.specs.Strokes.{stroke}
 use Rattle.pixels.specs.Hits.{Hit, paint}
 use Rattle.pixels.specs.Rows.{mark, flat}
@@ -54,3 +57,18 @@ pub record Asks (k : Pie) (p w q h : ℕ) : Type 0 where
   pub degrees : is_all k.sweep ≡ false → k.degrees ≡ degrees_of k.sweep
   pub asked : is_all k.sweep ≡ false → (i j : ℕ) → i ≤ 32767 → j ≤ 32767
       → p ≤ i + 2147483648 → i + 2147483648 < p + w → q ≤ j + 2147483648 → j + 2147483648 < q + h → Asked k i j
+
+-- Whether a region takes a pixel, and its points on a canvas.
+abbrev pub takes : Region → ℕ → ℕ → Bool
+takes r = region_at r.sx r.sy r.pie r.p r.q
+
+abbrev pub plots : Canvas → Region → List Point
+plots v r = sieve (takes r) (side (lowered r.p) r.sx.count v.width) (side (lowered r.q) r.sy.count v.height)
+
+-- What may be counted on of a region.
+pub record Bounded (r : Region) : Type 0 where
+  pub left : r.p < 17179869184
+  pub top : r.q < 17179869184
+  pub columns : Sided r.sx
+  pub rows : Sided r.sy
+  pub asks : Asks r.pie r.p r.sx.count r.q r.sy.count

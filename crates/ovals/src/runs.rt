@@ -10,7 +10,7 @@ ghost use Rattle.canvas.specs.Plot.{inks};
 ghost use Rattle.canvas.specs.Boxes.{side};
 ghost use Rattle.canvas.specs.Walk.{lowered, work, Fits, Ready, Did};
 ghost use Rattle.ovals.specs.Curves.{sieve};
-ghost use Rattle.ovals.specs.Sift.{sifts, sifted, land, region_at, Lies, Asks};
+ghost use Rattle.ovals.specs.Sift.{sifts, sifted, land, region_at, takes, plots, Lies, Asks, Bounded};
 
 use canvas::span::overlap;
 use canvas::{Clip, Tally};
@@ -19,6 +19,16 @@ use curves::pies::{Pie, Sweep, all_round, next};
 use pixels::Canvas;
 use pixels::rows::{Span, ink_row};
 use words::Ink;
+
+// A region in a box with a lifted corner: its sides give each row one run, and of that it takes what the pie's sweep has.
+#[derive(Clone, Copy)]
+struct Region {
+    sx: Side,
+    sy: Side,
+    pie: Pie,
+    p: u64,
+    q: u64,
+}
 
 // A lifted number, held between two places.
 fn held(v: u64, low: usize, high: usize) -> usize
@@ -80,11 +90,7 @@ fn swept_row(
 fn run_row(
     canvas: Canvas,
     b: &mut [u8],
-    sx: Side,
-    sy: Side,
-    k: Pie,
-    p: u64,
-    q: u64,
+    area: Region,
     r: u32,
     y: usize,
     x0: usize,
@@ -92,63 +98,56 @@ fn run_row(
     ink: Ink,
     t: Tally,
 ) -> Tally
-    requires { (Sized canvas b.old) × ((x0 ≤ x1) × ((x1 ≤ canvas.width) × ((y < canvas.height) × ((p < 17179869184) × ((sx.count ≤ 32767) × ((Run (has_at sx (part_on sy (y + 2147483648 - q))) sx.count r) × ((Lies p sx.count x0 x1) × ((Fits (land canvas (sifts (region_at sx sy k p q) (inked ink) (run x0 (x1 - x0)) y) (work b.old t)).tally) × (Swept k x0 x1 y))))))))) }
-    ensures { work b.new result ≡ land canvas (sifts (region_at sx sy k p q) (inked ink) (run x0 (x1 - x0)) y) (work b.old t) }
+    requires sized { Sized canvas b.old }
+    requires ordered { x0 ≤ x1 }
+    requires wide { x1 ≤ canvas.width }
+    requires high { y < canvas.height }
+    requires bounded { Bounded area }
+    requires row { Run (has_at area.sx (part_on area.sy (y + 2147483648 - area.q))) area.sx.count r }
+    requires lies { Lies area.p area.sx.count x0 x1 }
+    requires room { Fits (land canvas (sifts (takes area) (inked ink) (run x0 (x1 - x0)) y) (work b.old t)).tally }
+    requires swept { Swept area.pie x0 x1 y }
+    ensures { work b.new result ≡ land canvas (sifts (takes area) (inked ink) (run x0 (x1 - x0)) y) (work b.old t) }
 {
-    let from = held(p + r as u64, x0, x1);
-    let to = held(p + (sx.count - r) as u64, from, x1);
-    swept_row(canvas, b, k, y, from, to, ink, t)
+    let from = held(area.p + r as u64, x0, x1);
+    let to = held(area.p + (area.sx.count - r) as u64, from, x1);
+    swept_row(canvas, b, area.pie, y, from, to, ink, t)
 }
 
 // The pixels of a box that the region takes, row by row.
-fn run_box(
-    canvas: Canvas,
-    b: &mut [u8],
-    sx: Side,
-    sy: Side,
-    k: Pie,
-    p: u64,
-    q: u64,
-    xs: Span,
-    ys: Span,
-    ink: Ink,
-    t: Tally,
-) -> Tally
-    requires { (Sized canvas b.old) × ((xs.from ≤ xs.to) × ((xs.to ≤ canvas.width) × ((ys.to ≤ canvas.height) × (((p < 17179869184) × ((q < 17179869184) × ((Sided sx) × (Sided sy)))) × ((Lies p sx.count xs.from xs.to) × ((Lies q sy.count ys.from ys.to) × ((Fits (land canvas (sifted (region_at sx sy k p q) (inked ink) (run xs.from (xs.to - xs.from)) (run ys.from (ys.to - ys.from))) (work b.old t)).tally) × (Asks k p sx.count q sy.count)))))))) }
-    ensures { work b.new result ≡ land canvas (sifted (region_at sx sy k p q) (inked ink) (run xs.from (xs.to - xs.from)) (run ys.from (ys.to - ys.from))) (work b.old t) }
+fn run_box(canvas: Canvas, b: &mut [u8], area: Region, xs: Span, ys: Span, ink: Ink, t: Tally) -> Tally
+    requires sized { Sized canvas b.old }
+    requires ordered { xs.from ≤ xs.to }
+    requires wide { xs.to ≤ canvas.width }
+    requires high { ys.to ≤ canvas.height }
+    requires bounded { Bounded area }
+    requires columns { Lies area.p area.sx.count xs.from xs.to }
+    requires rows { Lies area.q area.sy.count ys.from ys.to }
+    requires room { Fits (land canvas (sifted (takes area) (inked ink) (run xs.from (xs.to - xs.from)) (run ys.from (ys.to - ys.from))) (work b.old t)).tally }
+    ensures { work b.new result ≡ land canvas (sifted (takes area) (inked ink) (run xs.from (xs.to - xs.from)) (run ys.from (ys.to - ys.from))) (work b.old t) }
 {
     // a run is looked for at that of the row before, or at the last place of the left half
-    let last = (sx.count - 1) / 2;
+    let last = (area.sx.count - 1) / 2;
     let mut n = t;
-    let mut i = (sx.arc / 2).min(last);
+    let mut i = (area.sx.arc / 2).min(last);
     for y in ys.from..ys.to {
-        let row = part(sy, (y as u64 + 2147483648 - q) as u32);
-        let r = first(sx, row, i);
-        n = run_row(canvas, b, sx, sy, k, p, q, r, y, xs.from, xs.to, ink, n);
+        let row = part(area.sy, (y as u64 + 2147483648 - area.q) as u32);
+        let r = first(area.sx, row, i);
+        n = run_row(canvas, b, area, r, y, xs.from, xs.to, ink, n);
         i = r.min(last);
     }
     n
 }
 
-// The plots of a region whose box has a lifted corner.
-fn run_in(
-    canvas: Canvas,
-    b: &mut [u8],
-    sx: Side,
-    sy: Side,
-    k: Pie,
-    p: u64,
-    q: u64,
-    ink: Ink,
-    clip: Clip,
-    t: Tally,
-) -> Tally
-    requires { (Ready canvas clip (inks (inked ink) (sieve (region_at sx sy k p q) (side (lowered p) sx.count canvas.width) (side (lowered q) sy.count canvas.height))) (work b.old t)) × (((p < 17179869184) × ((q < 17179869184) × ((Sided sx) × (Sided sy)))) × (Asks k p sx.count q sy.count)) }
-    ensures { Did canvas clip (inks (inked ink) (sieve (region_at sx sy k p q) (side (lowered p) sx.count canvas.width) (side (lowered q) sy.count canvas.height))) (work b.old t) (work b.new result) }
+// The plots of a region.
+fn run_in(canvas: Canvas, b: &mut [u8], area: Region, ink: Ink, clip: Clip, t: Tally) -> Tally
+    requires ready { Ready canvas clip (inks (inked ink) (plots canvas area)) (work b.old t) }
+    requires bounded { Bounded area }
+    ensures { Did canvas clip (inks (inked ink) (plots canvas area)) (work b.old t) (work b.new result) }
 {
-    let xs = overlap(p, sx.count, clip.x, clip.width, canvas.width);
-    let ys = overlap(q, sy.count, clip.y, clip.height, canvas.height);
-    run_box(canvas, b, sx, sy, k, p, q, xs, ys, ink, t)
+    let xs = overlap(area.p, area.sx.count, clip.x, clip.width, canvas.width);
+    let ys = overlap(area.q, area.sy.count, clip.y, clip.height, canvas.height);
+    run_box(canvas, b, area, xs, ys, ink, t)
 }
 
 // The plots of a pie in a box with a lifted corner.
@@ -169,7 +168,7 @@ pub(crate) fn sector_in(
 {
     let sx = pie_side(w);
     let sy = pie_side(h);
-    run_in(canvas, b, sx, sy, k, p, q, ink, clip, t)
+    run_in(canvas, b, Region { sx, sy, pie: k, p, q }, ink, clip, t)
 }
 
 // The plots of a round fill in a box with a lifted corner.
@@ -191,6 +190,6 @@ pub(crate) fn arcs_in(
 {
     let sx = round_side(aw, w);
     let sy = round_side(ah, h);
-    let k = all_round();
-    run_in(canvas, b, sx, sy, k, p, q, ink, clip, t)
+    let pie = all_round();
+    run_in(canvas, b, Region { sx, sy, pie, p, q }, ink, clip, t)
 }

@@ -1,14 +1,17 @@
 -- A row that is one run, held to the columns that are drawn.
 use Rattle.std.proofs.Common.{◌≡◌, ℕ, ◌+◌, ◌-◌, ◌<◌, ◌≤◌, min, max, Bool, false, ◌&&◌, T, ℤ, sym, ap, subst, arith}
 use lib.Ieee.{Float}
-use Rattle.canvas.specs.Walk.{Cut}
+use Rattle.pixels.specs.declared.Canvas.{Canvas}
+use Rattle.pixels.specs.Rows.{run}
+use Rattle.canvas.specs.Walk.{Cut, Work, Fits}
 use Rattle.curves.specs.declared.bulges.Side.{Side}
-use Rattle.curves.specs.declared.pies.Pie.{Pie}
 use Rattle.curves.specs.Pies.{covers}
 use Rattle.curves.specs.Bulges.{part_on, has_at, Sided, Rising, Run}
 use Rattle.curves.proofs.Rising.{plain}
 use Rattle.curves.proofs.Disc.{rising, on_plain}
-use Rattle.ovals.specs.Sift.{region_at, Lies}
+use Rattle.ovals.specs.declared.runs.Region.{Region}
+use Rattle.ovals.specs.Sift.{sifts, land, takes, Lies}
+use Rattle.ovals.proofs.runs.Sifts.{part_fits, part-lands}
 
 module _ (v low high r : ℕ) (e : r ≡ min (max (v - 2147483648) low) high) (h : low ≤ high) where
   pub held_low : low ≤ r
@@ -29,65 +32,71 @@ less p n c h k = omega arith
 more : (p n c : ℕ) → p + c ≤ n → c ≤ n - p
 more p n c h = omega arith
 
-module _ (sx sy : Side) (pie : Pie) (p q r y x0 x1 a e : ℕ) (m : x0 ≤ x1) (run : Run (has_at sx (part_on sy (y + 2147483648 - q))) sx.count r) (lies : Lies p sx.count x0 x1)
-    (f : a ≡ min (max (p + r - 2147483648) x0) x1) (g : e ≡ min (max (p + (sx.count - r) - 2147483648) a) x1) where
+module _ (area : Region) (r y x0 x1 a e : ℕ) (m : x0 ≤ x1) (row : Run (has_at area.sx (part_on area.sy (y + 2147483648 - area.q))) area.sx.count r) (lies : Lies area.p area.sx.count x0 x1)
+    (f : a ≡ min (max (area.p + r - 2147483648) x0) x1) (g : e ≡ min (max (area.p + (area.sx.count - r) - 2147483648) a) x1) where
   in_low : x0 ≤ a
-  in_low = held_low (p + r) x0 x1 a f m
+  in_low = held_low (area.p + r) x0 x1 a f m
 
   in_high : a ≤ x1
-  in_high = held_high (p + r) x0 x1 a f m
+  in_high = held_high (area.p + r) x0 x1 a f m
 
   pub ordered : a ≤ e
-  ordered = held_low (p + (sx.count - r)) a x1 e g in_high
+  ordered = held_low (area.p + (area.sx.count - r)) a x1 e g in_high
 
   pub ends : e ≤ x1
-  ends = held_high (p + (sx.count - r)) a x1 e g in_high
+  ends = held_high (area.p + (area.sx.count - r)) a x1 e g in_high
 
   pub starts : x0 ≤ a
   starts = in_low
 
   module _ (i : ℕ) where
-    pub before : x0 ≤ i → i < a → region_at sx sy pie p q i y ≡ false
+    pub before : x0 ≤ i → i < a → takes area i y ≡ false
     before l k =
-        let s : x0 < x1 = above x0 i a x1 l k in_high in ap (λ (b : Bool). b && covers pie i y)
-        (run.before (i + 2147483648 - p) (less p (i + 2147483648) r (reach x0 i (lies.begins s) l) (before-held (p + r) x0 x1 a f m i l k)))
+        let s : x0 < x1 = above x0 i a x1 l k in_high in ap (λ (b : Bool). b && covers area.pie i y)
+        (row.before (i + 2147483648 - area.p) (less area.p (i + 2147483648) r (reach x0 i (lies.begins s) l) (before-held (area.p + r) x0 x1 a f m i l k)))
       where
         above : (x0 i a x1 : ℕ) → x0 ≤ i → i < a → a ≤ x1 → x0 < x1
         above x0 i a x1 l k h = omega arith
 
-        reach : (x0 i : ℕ) → p ≤ x0 + 2147483648 → x0 ≤ i → p ≤ i + 2147483648
+        reach : (x0 i : ℕ) → area.p ≤ x0 + 2147483648 → x0 ≤ i → area.p ≤ i + 2147483648
         reach x0 i h l = omega arith
 
-    pub within : a ≤ i → i < e → region_at sx sy pie p q i y ≡ covers pie i y
+    pub within : a ≤ i → i < e → takes area i y ≡ covers area.pie i y
     within l k =
         let s : i < x1 = under i e x1 k ends in
-        let u : p + r ≤ i + 2147483648 = from-held (p + r) x0 x1 a f m i l s in
-        ap (λ (b : Bool). b && covers pie i y)
-        (run.taken (i + 2147483648 - p) (more p (i + 2147483648) r u)
-        (less p (i + 2147483648) (sx.count - r) (on r (i + 2147483648) u) (before-held (p + (sx.count - r)) a x1 e g in_high i l k)))
+        let u : area.p + r ≤ i + 2147483648 = from-held (area.p + r) x0 x1 a f m i l s in
+        ap (λ (b : Bool). b && covers area.pie i y)
+        (row.taken (i + 2147483648 - area.p) (more area.p (i + 2147483648) r u)
+        (less area.p (i + 2147483648) (area.sx.count - r) (on r (i + 2147483648) u) (before-held (area.p + (area.sx.count - r)) a x1 e g in_high i l k)))
       where
         under : (i e x1 : ℕ) → i < e → e ≤ x1 → i < x1
         under i e x1 h l = omega arith
 
-        on : (r n : ℕ) → p + r ≤ n → p ≤ n
+        on : (r n : ℕ) → area.p + r ≤ n → area.p ≤ n
         on r n h = omega arith
 
-    pub after : e ≤ i → i < x1 → region_at sx sy pie p q i y ≡ false
+    pub after : e ≤ i → i < x1 → takes area i y ≡ false
     after l k =
         let s : x0 < x1 = under x0 a e i x1 in_low ordered l k in
-        let u : p + (sx.count - r) ≤ i + 2147483648 = from-held (p + (sx.count - r)) a x1 e g in_high i l k in
-        ap (λ (b : Bool). b && covers pie i y)
-        (run.after (i + 2147483648 - p) (more p (i + 2147483648) (sx.count - r) u)
-        (less p (i + 2147483648) sx.count (on (sx.count - r) (i + 2147483648) u) (past sx.count (lies.ends s))))
+        let u : area.p + (area.sx.count - r) ≤ i + 2147483648 = from-held (area.p + (area.sx.count - r)) a x1 e g in_high i l k in
+        ap (λ (b : Bool). b && covers area.pie i y)
+        (row.after (i + 2147483648 - area.p) (more area.p (i + 2147483648) (area.sx.count - r) u)
+        (less area.p (i + 2147483648) area.sx.count (on (area.sx.count - r) (i + 2147483648) u) (past area.sx.count (lies.ends s))))
       where
         under : (x0 a e i x1 : ℕ) → x0 ≤ a → a ≤ e → e ≤ i → i < x1 → x0 < x1
         under x0 a e i x1 h l m n = omega arith
 
-        on : (r n : ℕ) → p + r ≤ n → p ≤ n
+        on : (r n : ℕ) → area.p + r ≤ n → area.p ≤ n
         on r n h = omega arith
 
-        past : (n : ℕ) → x1 + 2147483648 ≤ p + n → i + 2147483648 < p + n
+        past : (n : ℕ) → x1 + 2147483648 ≤ area.p + n → i + 2147483648 < area.p + n
         past n h = omega arith
+
+  pub row_fits : (v : Canvas) (h : ℕ → ℕ) (w : Work) → Fits (land v (sifts (takes area) h (run x0 (x1 - x0)) y) w).tally → Fits (land v (sifts (covers area.pie) h (run a (e - a)) y) w).tally
+  row_fits v h w = part_fits (takes area) (covers area.pie) h y x0 a e x1 starts ordered ends before within after v w
+
+  pub row-lands : (v : Canvas) (h : ℕ → ℕ) (w w' : Work) → w' ≡ land v (sifts (covers area.pie) h (run a (e - a)) y) w → w' ≡ land v (sifts (takes area) h (run x0 (x1 - x0)) y) w
+  row-lands v h w w' = part-lands (takes area) (covers area.pie) h y x0 a e x1 starts ordered ends before within after v w w'
 
 -- a row that is drawn is one of the box's
 module _ (q n y0 y1 y : ℕ) (lies : Lies q n y0 y1) (h : y0 ≤ y) (k : y < y1) where

@@ -8,23 +8,18 @@ pub run_in-requires : goal.run_in-requires
 run_in-requires c =
     let a = c.args in
     let p = c.requires in
-    let pie-side = c.pie_side-sx in (
-      ready_same _ _ _ (pie-same a.canvas a.k a.p a.q pie-side.result c.pie_side-sy.result a.w a.h pie-side.ensures c.pie_side-sy.ensures) p.0,
-      (
-        (
-          p.1.0,
-          (
-            p.1.1.0,
-            (
-              pie_side_of pie-side.result a.w pie-side.ensures p.1.1.1.0 p.1.1.1.1.1.0,
-              pie_side_of c.pie_side-sy.result a.h
-                  c.pie_side-sy.ensures p.1.1.1.1.0 p.1.1.1.1.1.1.0,
-            ),
-          ),
-        ),
-        asks_sides a.k a.p a.q a.w a.h pie-side.result c.pie_side-sy.result pie-side.ensures c.pie_side-sy.ensures p.1.1.1.1.1.1.1,
-      ),
-    )
+    let sx = c.pie_side-sx in
+    let sy = c.pie_side-sy in
+    record {
+      ready = ready_same _ _ _ (pie-same a.canvas a.k a.p a.q sx.result sy.result a.w a.h sx.ensures sy.ensures) p.0;
+      bounded = record {
+        left = p.1.0;
+        top = p.1.1.0;
+        columns = pie_side_of sx.result a.w sx.ensures p.1.1.1.0 p.1.1.1.1.1.0;
+        rows = pie_side_of sy.result a.h sy.ensures p.1.1.1.1.0 p.1.1.1.1.1.1.0;
+        asks = asks_sides a.k a.p a.q a.w a.h sx.result sy.result sx.ensures sy.ensures p.1.1.1.1.1.1.1;
+      };
+    }
 
 pub returns : goal.returns
 returns c =
