@@ -115,7 +115,15 @@ fn run_row(
 }
 
 // The pixels of a box that the region takes, row by row.
-fn run_box(canvas: Canvas, b: &mut [u8], area: Region, xs: Span, ys: Span, ink: Ink, t: Tally) -> Tally
+fn run_box(
+    canvas: Canvas,
+    b: &mut [u8],
+    area: Region,
+    xs: Span,
+    ys: Span,
+    ink: Ink,
+    t: Tally,
+) -> Tally
     requires sized { Sized canvas b.old }
     requires ordered { xs.from ≤ xs.to }
     requires wide { xs.to ≤ canvas.width }
@@ -154,7 +162,7 @@ fn run_in(canvas: Canvas, b: &mut [u8], area: Region, ink: Ink, clip: Clip, t: T
 pub(crate) fn sector_in(
     canvas: Canvas,
     b: &mut [u8],
-    k: Pie,
+    pie: Pie,
     p: u64,
     q: u64,
     w: u32,
@@ -163,12 +171,13 @@ pub(crate) fn sector_in(
     clip: Clip,
     t: Tally,
 ) -> Tally
-    requires { (Ready canvas clip (inks (inked ink) (sieve (region_at (pie_side w) (pie_side h) k p q) (side (lowered p) w canvas.width) (side (lowered q) h canvas.height))) (work b.old t)) × ((p < 17179869184) × ((q < 17179869184) × ((1 ≤ w) × ((1 ≤ h) × ((w ≤ 32767) × ((h ≤ 32767) × (Asks k p w q h))))))) }
-    ensures { Did canvas clip (inks (inked ink) (sieve (region_at (pie_side w) (pie_side h) k p q) (side (lowered p) w canvas.width) (side (lowered q) h canvas.height))) (work b.old t) (work b.new result) }
+    requires { (Ready canvas clip (inks (inked ink) (sieve (region_at (pie_side w) (pie_side h) pie p q) (side (lowered p) w canvas.width) (side (lowered q) h canvas.height))) (work b.old t)) × ((p < 17179869184) × ((q < 17179869184) × ((1 ≤ w) × ((1 ≤ h) × ((w ≤ 32767) × ((h ≤ 32767) × (Asks pie p w q h))))))) }
+    ensures { Did canvas clip (inks (inked ink) (sieve (region_at (pie_side w) (pie_side h) pie p q) (side (lowered p) w canvas.width) (side (lowered q) h canvas.height))) (work b.old t) (work b.new result) }
 {
     let sx = pie_side(w);
     let sy = pie_side(h);
-    run_in(canvas, b, Region { sx, sy, pie: k, p, q }, ink, clip, t)
+    let area = Region { sx, sy, pie, p, q };
+    run_in(canvas, b, area, ink, clip, t)
 }
 
 // The plots of a round fill in a box with a lifted corner.
@@ -191,5 +200,6 @@ pub(crate) fn arcs_in(
     let sx = round_side(aw, w);
     let sy = round_side(ah, h);
     let pie = all_round();
-    run_in(canvas, b, Region { sx, sy, pie, p, q }, ink, clip, t)
+    let area = Region { sx, sy, pie, p, q };
+    run_in(canvas, b, area, ink, clip, t)
 }

@@ -45,7 +45,9 @@ fn dab_spots(
 {
     let mut t = t0;
     for j in 0..m {
-        t = dab(canvas, b, xs, ys, n, u64::from(ps[j]), u64::from(qs[j]), ink, t);
+        let p = u64::from(ps[j]);
+        let q = u64::from(qs[j]);
+        t = dab(canvas, b, xs, ys, n, p, q, ink, t);
     }
     t
 }

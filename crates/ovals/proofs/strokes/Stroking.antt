@@ -1,11 +1,10 @@
 -- The stroke's loops: what is left of its points leads to the same end.
-use Rattle.std.proofs.Common.{◌≡◌, ℕ, zero, suc, ◌+◌, ◌-◌, ◌*◌, ◌<◌, ◌≤◌, min, max, List, [], ◌∷◌, map, length, get_or, sym, refl, ap, ◌∙◌, subst, ap₂, arith}
+use Rattle.std.proofs.Common.{◌≡◌, ℕ, zero, suc, ◌+◌, ◌-◌, ◌*◌, ◌<◌, ◌≤◌, min, max, List, [], ◌∷◌, length, get_or, sym, refl, ap, ◌∙◌, subst, ap₂, arith}
 use native.Mathlib.Decide.{dec_lt}
 use lib.Ieee.{Float}
-use lib.ListN.{length-map}
 use Rattle.floats.proofs.Rounds.{round_fits}
 use Rattle.curves.specs.declared.oval.Oval.{Oval}
-use Rattle.curves.specs.Strokes.{Spot, steps_of, x_at, y_at, spot_of, stroke_point, spots_from, columns, rows}
+use Rattle.curves.specs.Strokes.{steps_of, x_at, y_at, spot_of, stroke_point, spots_from, columns, rows}
 use Rattle.pixels.specs.declared.Canvas.{Canvas}
 use Rattle.canvas.specs.declared.Clip.{Clip}
 use Rattle.pixels.specs.declared.rows.Span.{Span}

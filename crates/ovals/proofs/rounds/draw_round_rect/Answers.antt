@@ -1,5 +1,5 @@
 -- A refusal is the first fault, the canvas's before the call's own; else the points are plotted with the colour's ink.
-use Rattle.std.proofs.Common.{refl, w32, Ok, Err}
+use Rattle.std.proofs.Common.{refl, w32}
 use mir.ValLaws.{to_z-of_z}
 use Rattle.ovals.specs.Faults.{shape_fault}
 use Rattle.ovals.specs.Strokes.{round_outline}

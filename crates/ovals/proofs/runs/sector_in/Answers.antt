@@ -11,13 +11,13 @@ run_in-requires c =
     let sx = c.pie_side-sx in
     let sy = c.pie_side-sy in
     record {
-      ready = ready_same _ _ _ (pie-same a.canvas a.k a.p a.q sx.result sy.result a.w a.h sx.ensures sy.ensures) p.0;
+      ready = ready_same _ _ _ (pie-same a.canvas a.pie a.p a.q sx.result sy.result a.w a.h sx.ensures sy.ensures) p.0;
       bounded = record {
         left = p.1.0;
         top = p.1.1.0;
         columns = pie_side_of sx.result a.w sx.ensures p.1.1.1.0 p.1.1.1.1.1.0;
         rows = pie_side_of sy.result a.h sy.ensures p.1.1.1.1.0 p.1.1.1.1.1.1.0;
-        asks = asks_sides a.k a.p a.q a.w a.h sx.result sy.result sx.ensures sy.ensures p.1.1.1.1.1.1.1;
+        asks = asks_sides a.pie a.p a.q a.w a.h sx.result sy.result sx.ensures sy.ensures p.1.1.1.1.1.1.1;
       };
     }
 
@@ -26,5 +26,5 @@ returns c =
     let a = c.args in
     let pie-side = c.pie_side-sx in
     let pie-side2 = c.pie_side-sy in
-    did_same _ _ _ (pie-same a.canvas a.k a.p a.q pie-side.result pie-side2.result a.w a.h pie-side.ensures pie-side2.ensures)
+    did_same _ _ _ (pie-same a.canvas a.pie a.p a.q pie-side.result pie-side2.result a.w a.h pie-side.ensures pie-side2.ensures)
     c.run_in.ensures

@@ -14,7 +14,7 @@ dab-t-requires c =
 pub loop-j-preserved : goal.loop-j-preserved
 loop-j-preserved c =
     let a = c.args in
-    spotting_turn a.ps.now a.qs.now c.loop-j-test.true (rw (c.from.ensures, c.from-in-loop-j.ensures) at c.dab-t.ensures) c.loop-j.invariant
+    spotting_turn a.ps.now a.qs.now c.loop-j-test.true (rw (c.from-p.ensures, c.from-q.ensures) at c.dab-t.ensures) c.loop-j.invariant
 
 pub returns : goal.returns
 returns c = spotting_end c.args.ps.now c.args.qs.now c.loop-j-test.false c.loop-j.invariant
