@@ -1,5 +1,5 @@
 -- What is left of the stroke leads to the same end.
-use Rattle.std.proofs.Common.{suc, ◌+◌, ◌≤◌, List, refl, ap, ◌∙◌, arith}
+use Rattle.std.proofs.Common.{suc, ◌+◌, ◌≤◌, List, ap, ◌∙◌, arith}
 use Rattle.curves.specs.Strokes.{Spot}
 use Rattle.words.specs.Ink.{inked}
 use Rattle.canvas.specs.Plot.{Point}
