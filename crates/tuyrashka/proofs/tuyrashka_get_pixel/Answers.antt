@@ -16,10 +16,10 @@ pub returns-in-Ok-None : goal.returns-in-Ok-None
 unfolding status_of seen_of tells
 returns-in-Ok-None c =
     shows c.args.bytes.now c.get_pixel-p.result c.ranges.x c.ranges.y c.canvas_of-v.ensures
-    (rw c.in-Ok-None.is refl) c.get_pixel-p.ensures
+    (rw (c.in-Ok.is, c.in-Ok-None.is) refl) c.get_pixel-p.ensures
 
 pub returns-in-Ok-Some : goal.returns-in-Ok-Some
 unfolding status_of seen_of tells format_of
 returns-in-Ok-Some c =
     shows c.args.bytes.now c.get_pixel-p.result c.ranges.x c.ranges.y c.canvas_of-v.ensures
-    (rw (c.in-Ok-Some.is, c.from_color.ensures) refl) c.get_pixel-p.ensures
+    (rw (c.in-Ok.is, c.in-Ok-Some.is, c.from_color.ensures) refl) c.get_pixel-p.ensures
