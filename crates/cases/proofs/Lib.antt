@@ -1,10 +1,8 @@
-pub mod Cases
 pub mod Determined
 pub mod Fills
 pub mod Hashes
 pub mod Numbers
-pub mod Named
-pub mod Reading
 pub mod Rows
 pub mod Seeds
 pub mod Texts
+pub mod Words

@@ -1,26 +1,16 @@
--- `held` compares the area with the room divided by a pixel's size, so that no product can wrap.
-use native.Mathlib.Omega.{arith}
-use Rattle.cases.proofs.Cases.{held_none, held-over, held-is, area_fits, product_fits}
-use borrow.Author.Rules.{rules}
+use Rattle.std.proofs.Common.{rules, ◌≡◌, ◌<◌, ℕ, ◌+◌, ◌-◌, ◌*◌, ◌≤◌, length, ◌/◌, ◌%◌, Bool, true, false, nat_eq, nat_lt, List, [], ◌∷◌, ◌++◌, slice_index_or, slice_set, bit_and, bit_or, Fits, w8, w32, w64, Bor, MutBor}
+use Rattle.cases.specs.Place.{taken}
+use Rattle.cases.specs.Case.{exactly, capped, lent_at, laid_out, case_of}
 use Rattle.cases.proofs.case.held.Goals as goal
 
-pub returns-then-n-eq0 : goal.returns-then-n-eq0
-returns-then-n-eq0 c =
-    let a = c.args in
-    held_none a.room c.bytes_per_pixel-n.result a.format a.row a.height c.bytes_per_pixel-n.ensures c.if-n-eq0.true
+-- src/case.rt:27:9
+pub returns-then-size-eq0 : goal.returns-then-size-eq0
+returns-then-size-eq0 c = ?
 
-pub overflow_mul-area : goal.overflow_mul-area
-overflow_mul-area c = record { fits = area_fits _ _ (search rules) (search rules) }
+-- src/case.rt:31:9
+pub returns-then-room-size : goal.returns-then-room-size
+returns-then-room-size c = ?
 
-pub returns-then-room-n : goal.returns-then-room-n
-returns-then-room-n c =
-    let a = c.args in
-    held-over a.room c.bytes_per_pixel-n.result a.format a.row a.height c.bytes_per_pixel-n.ensures c.if-n-eq0.false c.if-room-n.true
-
-pub overflow_mul-result : goal.overflow_mul-result
-overflow_mul-result c = omega (arith, product_fits _ c.args.room c.bytes_per_pixel-n.result c.if-n-eq0.false c.if-room-n.false)
-
+-- src/case.rt:22:1
 pub returns : goal.returns
-returns c =
-    let a = c.args in
-    held-is a.room c.bytes_per_pixel-n.result a.format a.row a.height c.bytes_per_pixel-n.ensures c.if-n-eq0.false
+returns c = ?

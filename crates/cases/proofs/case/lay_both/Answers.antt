@@ -1,53 +1,40 @@
--- `lay_both` lays both out where both have room.
-use native.Mathlib.Omega.{arith}
-use lib.ListN.{length}
-use Rattle.cases.specs.Place.{read_args}
-use Rattle.cases.proofs.Cases.{no_room, room, laid_both}
+use Rattle.std.proofs.Common.{rules, ◌≡◌, ◌<◌, ℕ, ◌+◌, ◌-◌, ◌*◌, ◌≤◌, length, ◌/◌, ◌%◌, Bool, true, false, nat_eq, nat_lt, List, [], ◌∷◌, ◌++◌, slice_index_or, slice_set, bit_and, bit_or, Fits, w8, w32, w64, Bor, MutBor}
+use Rattle.cases.specs.Place.{taken}
+use Rattle.cases.specs.Case.{exactly, capped, lent_at, laid_out, case_of}
 use Rattle.cases.proofs.case.lay_both.Goals as goal
 
-pub lent-n-requires : goal.lent-n-requires
-lent-n-requires c = record { i_bound = omega arith; j_bound = omega arith; room_bound = omega (arith, c.well_formed) }
+-- src/case.rt:60:13
+pub returns-in_err-n : goal.returns-in_err-n
+returns-in_err-n c = ?
 
-pub lent-m-requires : goal.lent-m-requires
-lent-m-requires c = record { i_bound = omega arith; j_bound = omega arith; room_bound = omega (arith, c.well_formed) }
+-- src/case.rt:61:13
+pub returns-in_err-m : goal.returns-in_err-m
+returns-in_err-m c = ?
 
-pub returns-then-bad-bytes : goal.returns-then-bad-bytes
-returns-then-bad-bytes c =
-    let a = c.args in
-    let h = (read_args a.line.now a.h).value in
-    let r = (read_args a.line.now a.c).value in
-    let n = c.lent-n in
-    let m = c.lent-m in
-    no_room a.name h r a.bytes.now a.image.now n.result m.result (n.ensures.by_index a.line.now) (m.ensures.by_index a.line.now) a.bad c.if-bad-bytes.true
+-- src/case.rt:62:20
+pub slice_bounds-sow-end : goal.slice_bounds-sow-end
+slice_bounds-sow-end c = ?
 
-pub lay-requires : goal.lay-requires
-lay-requires c =
-    let a = c.args in
-    let n = c.lent-n in
-    let m = c.lent-m in
-    record {
-      within = c.requires.within;
-      fills = n.ensures.fills;
-      n_in_bounds = (room a.bad (length a.bytes.now) (length a.image.now) n.result m.result c.if-bad-bytes.false).0;
-    }
+-- src/case.rt:62:20
+pub slice_bounds-sow-end-2 : goal.slice_bounds-sow-end-2
+slice_bounds-sow-end-2 c = ?
 
-pub lay-requires-2 : goal.lay-requires-2
-lay-requires-2 c =
-    let a = c.args in
-    let n = c.lent-n in
-    let m = c.lent-m in
-    record {
-      within = c.requires.within_2;
-      fills = m.ensures.fills;
-      n_in_bounds = (room a.bad (length a.bytes.now) (length a.image.now) n.result m.result c.if-bad-bytes.false).1;
-    }
+-- src/case.rt:62:5
+pub sow-requires : goal.sow-requires
+sow-requires c = ?
 
+-- src/case.rt:63:20
+pub slice_bounds-sow-end-3 : goal.slice_bounds-sow-end-3
+slice_bounds-sow-end-3 c = ?
+
+-- src/case.rt:63:20
+pub slice_bounds-sow-end-4 : goal.slice_bounds-sow-end-4
+slice_bounds-sow-end-4 c = ?
+
+-- src/case.rt:63:5
+pub sow-requires-2 : goal.sow-requires-2
+sow-requires-2 c = ?
+
+-- src/case.rt:51:1
 pub returns : goal.returns
-returns c =
-    let a = c.args in
-    let h = (read_args a.line.now a.h).value in
-    let r = (read_args a.line.now a.c).value in
-    let n = c.lent-n in
-    let m = c.lent-m in
-    let both = laid_both a.name h r a.bytes.now a.image.now n.result m.result (n.ensures.by_index a.line.now) (m.ensures.by_index a.line.now) in
-    both a.bad c.if-bad-bytes.false c.lay.ensures c.lay-2.ensures
+returns c = ?
