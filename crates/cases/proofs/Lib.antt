@@ -1,3 +1,4 @@
+pub mod Cases
 pub mod Determined
 pub mod Fills
 pub mod Hashes

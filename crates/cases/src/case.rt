@@ -1,7 +1,7 @@
 // A line as a case.
 ghost use Rattle.std.specs.Prelude.{◌≡◌, ◌<◌};
 ghost use Rattle.cases.specs.Place.{taken};
-ghost use Rattle.cases.specs.Case.{exactly, capped, lent_at, laid_out, case_of};
+ghost use Rattle.cases.specs.Case.{exactly, fitting, capped, lent_at, laid_out, case_of};
 
 use crate::number::read_name;
 use crate::ops::{HEAD, kinds};
@@ -16,6 +16,13 @@ pub struct Case {
     pub args: [u32; 16],
     pub bytes: usize,
     pub image: usize,
+}
+
+// So many bytes, if they are no more than the room.
+fn fitting(n: usize, room: usize) -> Option<usize>
+    ensures { result ≡ fitting room n }
+{
+    if room < n { None } else { Some(n) }
 }
 
 // How many bytes a canvas has, if they are no more than the room.
@@ -42,7 +49,7 @@ fn lent(args: Args, i: usize, j: usize, room: usize) -> Option<usize>
 {
     let n = args.numbers;
     match args.seed {
-        Seed::Bytes(digits) => Some(digits.len() / 2).filter(|n| *n <= room),
+        Seed::Bytes(digits) => fitting(digits.len() / 2, room),
         _ => held(n[i], n[j], n[i + 2], room),
     }
 }
@@ -78,8 +85,11 @@ pub fn read(line: &[u8], bytes: &mut [u8], image: &mut [u8]) -> Option<Case>
     let (head, left) = read_args(Some(line), &HEAD)?;
     let (name, left) = read_name(left)?;
     let kinds = kinds(name);
+    if kinds.is_empty() {
+        return None;
+    }
     let (args, left) = read_args(left, kinds)?;
-    if kinds.is_empty() || left.is_some() {
+    if left.is_some() {
         return None;
     }
     lay_both(name, head, args, bytes, image)

@@ -1,16 +1,23 @@
-use Rattle.std.proofs.Common.{rules, ◌≡◌, ◌<◌, ℕ, ◌+◌, ◌-◌, ◌*◌, ◌≤◌, length, ◌/◌, ◌%◌, Bool, true, false, nat_eq, nat_lt, List, [], ◌∷◌, ◌++◌, slice_index_or, slice_set, bit_and, bit_or, Fits, w8, w32, w64, Bor, MutBor}
-use Rattle.cases.specs.Place.{taken}
-use Rattle.cases.specs.Case.{exactly, capped, lent_at, laid_out, case_of}
+-- `held` compares the area with the room divided by a pixel's size, so that no product can wrap.
+use native.Mathlib.Omega.{arith}
+use borrow.Author.Rules.{rules}
+use Rattle.cases.proofs.Cases.{no_format, too_big, held_is, area_fits, product_fits}
 use Rattle.cases.proofs.case.held.Goals as goal
 
--- src/case.rt:27:9
 pub returns-then-size-eq0 : goal.returns-then-size-eq0
-returns-then-size-eq0 c = ?
+returns-then-size-eq0 c =
+    let a = c.args in
+    no_format a.room c.bytes_per_pixel-size.result a.format a.row a.height c.bytes_per_pixel-size.ensures c.if-size-eq0.true
 
--- src/case.rt:31:9
 pub returns-then-room-size : goal.returns-then-room-size
-returns-then-room-size c = ?
+returns-then-room-size c =
+    let a = c.args in
+    too_big a.room c.bytes_per_pixel-size.result a.format a.row a.height c.bytes_per_pixel-size.ensures c.if-size-eq0.false c.if-room-size.true
 
--- src/case.rt:22:1
+pub overflow_mul-result : goal.overflow_mul-result
+overflow_mul-result c = omega (arith, product_fits _ c.args.room c.bytes_per_pixel-size.result c.if-size-eq0.false c.if-room-size.false)
+
 pub returns : goal.returns
-returns c = ?
+returns c =
+    let a = c.args in
+    held_is a.room c.bytes_per_pixel-size.result a.format a.row a.height c.bytes_per_pixel-size.ensures c.if-size-eq0.false c.if-room-size.false

@@ -1,40 +1,46 @@
-use Rattle.std.proofs.Common.{rules, ◌≡◌, ◌<◌, ℕ, ◌+◌, ◌-◌, ◌*◌, ◌≤◌, length, ◌/◌, ◌%◌, Bool, true, false, nat_eq, nat_lt, List, [], ◌∷◌, ◌++◌, slice_index_or, slice_set, bit_and, bit_or, Fits, w8, w32, w64, Bor, MutBor}
+-- `lay_both` lays both out where both have room.
+use mathlib.Core.Path.{sym}
+use lib.ListN.{length, take}
+use lib.Seq.{length-take-le}
 use Rattle.cases.specs.Place.{taken}
-use Rattle.cases.specs.Case.{exactly, capped, lent_at, laid_out, case_of}
+use Rattle.cases.proofs.Cases.{within, fills, no_first, no_second, both_laid}
 use Rattle.cases.proofs.case.lay_both.Goals as goal
 
--- src/case.rt:60:13
 pub returns-in_err-n : goal.returns-in_err-n
-returns-in_err-n c = ?
+returns-in_err-n c =
+    let a = c.args in
+    rw c.from_residual.ensures (no_first a.name (taken a.head) (taken a.args) a.bytes.now a.image.now c.in_err-n.ensures)
 
--- src/case.rt:61:13
 pub returns-in_err-m : goal.returns-in_err-m
-returns-in_err-m c = ?
+returns-in_err-m c =
+    let a = c.args in
+    rw c.from_residual-in_err-m.ensures (no_second a.name (taken a.head) (taken a.args) a.bytes.now a.image.now c.in_ok-n.n c.in_ok-n.ensures c.in_err-m.ensures)
 
--- src/case.rt:62:20
 pub slice_bounds-sow-end : goal.slice_bounds-sow-end
-slice_bounds-sow-end c = ?
+slice_bounds-sow-end c = within (length c.args.bytes.now) 0 5 c.in_ok-n.n (taken c.args.head) c.in_ok-n.ensures
 
--- src/case.rt:62:20
 pub slice_bounds-sow-end-2 : goal.slice_bounds-sow-end-2
-slice_bounds-sow-end-2 c = ?
+slice_bounds-sow-end-2 c = sym (length-take-le c.in_ok-n.n c.args.bytes.now (within (length c.args.bytes.now) 0 5 c.in_ok-n.n (taken c.args.head) c.in_ok-n.ensures))
 
--- src/case.rt:62:5
 pub sow-requires : goal.sow-requires
-sow-requires c = ?
+sow-requires c =
+    let d = c.args.bytes.now in
+    let h = taken c.args.head in
+    rw (length-take-le c.in_ok-n.n d (within (length d) 0 5 c.in_ok-n.n h c.in_ok-n.ensures)) (fills (length d) 0 5 c.in_ok-n.n h c.in_ok-n.ensures)
 
--- src/case.rt:63:20
 pub slice_bounds-sow-end-3 : goal.slice_bounds-sow-end-3
-slice_bounds-sow-end-3 c = ?
+slice_bounds-sow-end-3 c = within (length c.args.image.now) 4 8 c.in_ok-m.m (taken c.args.args) c.in_ok-m.ensures
 
--- src/case.rt:63:20
 pub slice_bounds-sow-end-4 : goal.slice_bounds-sow-end-4
-slice_bounds-sow-end-4 c = ?
+slice_bounds-sow-end-4 c = sym (length-take-le c.in_ok-m.m c.args.image.now (within (length c.args.image.now) 4 8 c.in_ok-m.m (taken c.args.args) c.in_ok-m.ensures))
 
--- src/case.rt:63:5
 pub sow-requires-2 : goal.sow-requires-2
-sow-requires-2 c = ?
+sow-requires-2 c =
+    let d = c.args.image.now in
+    let r = taken c.args.args in
+    rw (length-take-le c.in_ok-m.m d (within (length d) 4 8 c.in_ok-m.m r c.in_ok-m.ensures)) (fills (length d) 4 8 c.in_ok-m.m r c.in_ok-m.ensures)
 
--- src/case.rt:51:1
 pub returns : goal.returns
-returns c = ?
+returns c =
+    let a = c.args in
+    both_laid a.name (taken a.head) (taken a.args) a.bytes.now a.image.now c.in_ok-n.n c.in_ok-n.ensures c.in_ok-m.m c.in_ok-m.ensures c.sow.ensures c.sow-2.ensures

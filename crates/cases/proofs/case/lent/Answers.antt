@@ -1,12 +1,11 @@
-use Rattle.std.proofs.Common.{rules, ◌≡◌, ◌<◌, ℕ, ◌+◌, ◌-◌, ◌*◌, ◌≤◌, length, ◌/◌, ◌%◌, Bool, true, false, nat_eq, nat_lt, List, [], ◌∷◌, ◌++◌, slice_index_or, slice_set, bit_and, bit_or, Fits, w8, w32, w64, Bor, MutBor}
-use Rattle.cases.specs.Place.{taken}
-use Rattle.cases.specs.Case.{exactly, capped, lent_at, laid_out, case_of}
+-- `lent` counts by the seed's kind.
+use mathlib.Core.Path.{◌∙◌, ap}
+use Rattle.cases.specs.Case.{capped}
+use Rattle.cases.proofs.Cases.{bytes_lent, canvas_lent}
 use Rattle.cases.proofs.case.lent.Goals as goal
 
--- src/case.rt:38:1
 pub returns-in-Bytes : goal.returns-in-Bytes
-returns-in-Bytes c = ?
+returns-in-Bytes c = c.fitting.ensures ∙ bytes_lent c.args.room _ _ _ c.args.args.seed c.in-Bytes.digits c.in-Bytes.is
 
--- src/case.rt:38:1
 pub returns-in_default : goal.returns-in_default
-returns-in_default c = ?
+returns-in_default c = c.held.ensures ∙ ap (capped c.args.room) (canvas_lent _ _ _ c.args.args.seed c.in_default.not-Bytes)
