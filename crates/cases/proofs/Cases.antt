@@ -2,22 +2,22 @@
 -- as a case, part by part.
 use mathlib.Core.Bool.{Bool, true, false, cond, true≢false}
 use mathlib.Core.List.{List, [], ◌∷◌, ◌++◌}
-use mathlib.Core.Path.{◌≡◌, refl, sym, ◌∙◌, ap, subst}
-use Prim.Native.Nat.{ℕ, ◌+◌, ◌*◌, ◌/◌, ◌^◌, ◌<◌, ◌≤◌}
+use mathlib.Core.Path.{◌≡◌, refl, sym, ◌∙◌, subst}
+use Prim.Native.Nat.{ℕ, ◌*◌, ◌/◌, ◌^◌, ◌<◌, ◌≤◌}
 use native.Mathlib.Nat.{div-lt_iff_lt-mul, le-div_iff_mul-le, mul-le-mul}
 use native.Mathlib.Omega.{arith}
-use lib.ListN.{length, take, drop, get_or}
-use lib.Dec.{leb, eqb}
+use lib.ListN.{length, take, drop}
+use lib.Dec.{leb}
 use lib.Seq.{length-take-le}
 use borrow.Author.Tests.{leb-true, le-leb, lt-leb, eq-eqb, ne_eqb}
 use Rattle.std.specs.Prelude.{Option, Some, None, is_some, IfSome}
 use Rattle.std.specs.Borrow.{Bor}
 use Rattle.words.specs.Format.{format_of, bytes_per_pixel}
-use Rattle.cases.specs.Line.{Left, words, lost, words_of, Got, got, after, next}
+use Rattle.cases.specs.Line.{Left, words, lost, words_of, got, after, next}
 use Rattle.cases.specs.Number.{letters, name_of}
 use Rattle.cases.specs.Row.{Args, head, row_of, args_of}
 use Rattle.cases.specs.Seed.{Sown, zeros, counted, given, first_bytes}
-use Rattle.cases.specs.Place.{left_of, sown, pairs, Fills}
+use Rattle.cases.specs.Place.{left_of, sown, Fills}
 use Rattle.cases.specs.Case.{exactly, lent, fitting, capped, whole, Outcome, no_case, laid, lent_at, laid_out, called, known, case_of}
 use Rattle.cases.specs.declared.ops.Kind.{Kind}
 use Rattle.cases.specs.declared.seed.Seed.{Seed}

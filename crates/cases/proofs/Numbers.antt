@@ -2,12 +2,12 @@
 use mathlib.Core.Bool.{Bool, true, false, ◌&&◌, cond, true≢false}
 use mathlib.Core.List.{List, [], ◌∷◌}
 use mathlib.Core.Path.{◌≡◌, refl, sym, ◌∙◌, ap}
-use Prim.Native.Nat.{ℕ, suc, ◌+◌, ◌-◌, ◌*◌, ◌%◌, ◌<◌, ◌≤◌}
+use Prim.Native.Nat.{ℕ, ◌+◌, ◌-◌, ◌*◌, ◌%◌, ◌<◌, ◌≤◌}
 use native.Mathlib.Decide.{dec_le}
 use native.Mathlib.Nat.{lt_of_not-le}
 use native.Mathlib.Numerals.{add-one}
 use native.Mathlib.Omega.{arith}
-use lib.Dec.{leb, eqb}
+use lib.Dec.{eqb}
 use lib.Pointwise.{pointwise}
 use lib.ListN.{length, take, drop, get_or, drop_of_length-le}
 use lib.Seq.{drop-cons}
@@ -16,7 +16,7 @@ use Rattle.words.proofs.Either.{both}
 use Rattle.std.specs.Prelude.{Option, Some, None}
 use Rattle.std.specs.Borrow.{Bor}
 use Rattle.std.specs.Char.{IsDigitOf, NotDecimalDigitIn}
-use Rattle.cases.specs.Line.{Left, words, lost, Got, got, after, next, or_else, first_of}
+use Rattle.cases.specs.Line.{Left, words, lost, got, after, next, or_else, first_of}
 use Rattle.cases.specs.Number.{accepts, digits, natural, minus, negative, number_of, negative_of, signed_of, numeric, behind, named_of, letters}
 use Rattle.cases.specs.Place.{words_left, left_of}
 use Rattle.cases.specs.declared.ops.Kind.{Kind}

@@ -1,14 +1,14 @@
 -- The words of a row, kind by kind, and its arguments one by one.
 use mathlib.Core.List.{List, [], ◌∷◌}
 use mathlib.Core.Path.{◌≡◌, refl, sym, ◌∙◌, ap}
-use Prim.Native.Nat.{ℕ, suc, ◌+◌, ◌<◌, ◌≤◌}
+use Prim.Native.Nat.{ℕ, ◌+◌, ◌<◌, ◌≤◌}
 use native.Mathlib.Numerals.{add-one}
 use lib.ListN.{length, drop, get_or, drop_of_length-le}
 use lib.Seq.{drop-cons}
-use Rattle.cases.specs.Line.{Left, words, lost, Got, got, next, or_else, first_of}
+use Rattle.cases.specs.Line.{Left, lost, Got, next, or_else, first_of}
 use Rattle.cases.specs.Number.{number_of, negative_of, signed_of, numeric, name_of, named_of}
 use Rattle.cases.specs.Row.{Args, numbered, seeded, row_length, rule_number, word_of, arg_of, args_from}
-use Rattle.cases.specs.Seed.{Sown, seed_of, file_of}
+use Rattle.cases.specs.Seed.{seed_of, file_of}
 use Rattle.cases.specs.declared.ops.Kind.{Kind}
 use Rattle.cases.specs.declared.ops.Kind.TheVariants.{Int, Switch, Channel, Seed, Unsigned, File, Rule, Row}
 

@@ -1,27 +1,26 @@
 -- Seeds and files word by word, hex digits two by two, and the bytes they give.
 use mathlib.Core.Bool.{Bool, true, false, ◌&&◌, cond, true≢false}
-use mathlib.Core.List.{List, [], ◌∷◌, ◌++◌}
+use mathlib.Core.List.{List, [], ◌∷◌}
 use mathlib.Core.Path.{◌≡◌, refl, sym, ◌∙◌, ap}
 use Prim.Native.Nat.{ℕ, zero, suc, ◌+◌, ◌*◌, ◌/◌, ◌%◌, ◌<◌, ◌≤◌}
 use native.Mathlib.Decide.{dec_le, ℕ_discrete}
-use native.Mathlib.Numerals.{add-one}
 use native.Mathlib.Omega.{arith}
 use lib.Dec.{eqb, ltb, leb}
 use native.Mathlib.Nat.{lt_of_not-le}
-use lib.ListN.{length, take, drop, get_or, set, replicate, length-drop}
+use lib.ListN.{length, take, drop, get_or, replicate, length-drop}
 use lib.Seq.{drop-cons}
 use lib.Pointwise.{pointwise}
 use borrow.Author.Tests.{le-leb, lt-leb, lt-ltb, le-ltb, eq-eqb, ne_eqb, eqb-true}
 use Rattle.words.proofs.Either.{both}
-use Rattle.std.specs.Prelude.{Option, Some, None, SomeIff, unwrap_or, option_map}
+use Rattle.std.specs.Prelude.{Option, Some, None, SomeIff, unwrap_or}
 use Rattle.std.specs.List.{list_all}
 use Rattle.std.specs.Borrow.{Bor}
 use Rattle.std.specs.Char.{is_digit, digit_value}
-use Rattle.cases.specs.Line.{Left, words, lost, Got, got, after, next}
+use Rattle.cases.specs.Line.{Left, lost, got, after, next}
 use Rattle.cases.specs.Number.{natural, letters, name_of}
-use Rattle.cases.specs.Seed.{Sown, zeros, counted, given, nibble, byte, before, hexes, given_by, given_hex, counted_by, sowing, seed_of, filled, file_of, turns}
+use Rattle.cases.specs.Seed.{Sown, zeros, given, nibble, byte, before, hexes, given_by, given_hex, counted_by, sowing, seed_of, filled, file_of, turns}
 use Rattle.cases.specs.Place.{words_left, left_of, pairs}
-use Rattle.cases.proofs.Numbers.{after_byte, other_byte}
+use Rattle.cases.proofs.Numbers.{other_byte}
 
 pub nibble_by : (b : ℕ) (o : Option ℕ) → SomeIff o (digit_value b < 16) (digit_value b) → unwrap_or o 0 ≡ nibble b % 16
 unfolding nibble

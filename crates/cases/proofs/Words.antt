@@ -1,14 +1,14 @@
 -- The first word of what is left, and a rule that reads it.
 use mathlib.Core.List.{List, [], ◌∷◌}
-use mathlib.Core.Path.{◌≡◌, refl, sym, ◌∙◌, ap}
-use Prim.Native.Nat.{ℕ, zero, suc, ◌+◌, ◌<◌}
+use mathlib.Core.Path.{◌≡◌, refl, ap}
+use Prim.Native.Nat.{ℕ, zero, suc, ◌<◌}
 use native.Mathlib.Omega.{arith}
 use lib.ListN.{length, take, drop, get_or}
 use Rattle.std.proofs.lemmas.List.Elements.{All-head, All-tail}
 use borrow.Author.Tests.{eq-eqb, ne_eqb}
 use Rattle.std.specs.Prelude.{◌≢◌, Option, Some, None, All}
 use Rattle.std.specs.Borrow.{Bor}
-use Rattle.cases.specs.Line.{first_word, other_words, Left, words, lost, Got, got, after, next}
+use Rattle.cases.specs.Line.{first_word, other_words, lost, got, after, next}
 use Rattle.cases.specs.Place.{words_left, left_of}
 
 -- A byte more before the first word.

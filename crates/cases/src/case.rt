@@ -55,13 +55,7 @@ fn lent(args: Args, i: usize, j: usize, room: usize) -> Option<usize>
 }
 
 // Lays the first bytes out, where there is room for both.
-fn lay_both(
-    name: u64,
-    head: Args,
-    args: Args,
-    bytes: &mut [u8],
-    image: &mut [u8],
-) -> Option<Case>
+fn lay_both(name: u64, head: Args, args: Args, bytes: &mut [u8], image: &mut [u8]) -> Option<Case>
     ensures { (result, bytes.new, image.new) ≡ laid_out name (taken head.entry) (taken args.entry) bytes.old image.old }
 {
     let n = lent(head, 0, 5, bytes.len())?;

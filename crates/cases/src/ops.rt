@@ -49,23 +49,54 @@ use Kind::{Channel, File, Int, Row, Rule, Seed, Switch, Unsigned};
 // What stands before an op: the canvas, and how it is drawn on.
 pub(crate) const HEAD: [Kind; 7] = [Unsigned, Unsigned, Unsigned, Switch, Seed, Row(4), Rule];
 
-const PUT_KINDS: [Kind; 10] = [Int, Int, Channel, Channel, Channel, Channel, Int, Int, Unsigned, Unsigned];
+const PUT_KINDS: [Kind; 10] = [
+    Int, Int, Channel, Channel, Channel, Channel, Int, Int, Unsigned, Unsigned,
+];
 
 const GET_KINDS: [Kind; 2] = [Int, Int];
 
-const LINE_KINDS: [Kind; 12] = [Int, Int, Int, Int, Channel, Channel, Channel, Channel, Int, Int, Unsigned, Unsigned];
+const LINE_KINDS: [Kind; 12] = [
+    Int, Int, Int, Int, Channel, Channel, Channel, Channel, Int, Int, Unsigned, Unsigned,
+];
 
-const RECT_KINDS: [Kind; 12] = [Int, Int, Unsigned, Unsigned, Channel, Channel, Channel, Channel, Int, Int, Unsigned, Unsigned];
+const RECT_KINDS: [Kind; 12] = [
+    Int, Int, Unsigned, Unsigned, Channel, Channel, Channel, Channel, Int, Int, Unsigned, Unsigned,
+];
 
-const ARC_KINDS: [Kind; 14] = [Int, Int, Unsigned, Unsigned, Int, Int, Channel, Channel, Channel, Channel, Int, Int, Unsigned, Unsigned];
+const ARC_KINDS: [Kind; 14] = [
+    Int, Int, Unsigned, Unsigned, Int, Int, Channel, Channel, Channel, Channel, Int, Int, Unsigned,
+    Unsigned,
+];
 
-const RRECT_KINDS: [Kind; 14] = [Int, Int, Unsigned, Unsigned, Unsigned, Unsigned, Channel, Channel, Channel, Channel, Int, Int, Unsigned, Unsigned];
+const RRECT_KINDS: [Kind; 14] = [
+    Int, Int, Unsigned, Unsigned, Unsigned, Unsigned, Channel, Channel, Channel, Channel, Int, Int,
+    Unsigned, Unsigned,
+];
 
-const COPY_KINDS: [Kind; 10] = [Int, Int, Int, Int, Unsigned, Unsigned, Int, Int, Unsigned, Unsigned];
+const COPY_KINDS: [Kind; 10] = [
+    Int, Int, Int, Int, Unsigned, Unsigned, Int, Int, Unsigned, Unsigned,
+];
 
 const INVERT_KINDS: [Kind; 8] = [Int, Int, Unsigned, Unsigned, Int, Int, Unsigned, Unsigned];
 
-const DRAW_KINDS: [Kind; 16] = [Int, Int, Unsigned, Unsigned, Unsigned, Unsigned, Unsigned, Seed, Row(3), Rule, Int, Int, Int, Int, Unsigned, Unsigned];
+const DRAW_KINDS: [Kind; 16] = [
+    Int,
+    Int,
+    Unsigned,
+    Unsigned,
+    Unsigned,
+    Unsigned,
+    Unsigned,
+    Seed,
+    Row(3),
+    Rule,
+    Int,
+    Int,
+    Int,
+    Int,
+    Unsigned,
+    Unsigned,
+];
 
 const LBMP_KINDS: [Kind; 2] = [Unsigned, File];
 

@@ -1,7 +1,6 @@
 -- `held` compares the area with the room divided by a pixel's size, so that no product can wrap.
 use native.Mathlib.Omega.{arith}
-use borrow.Author.Rules.{rules}
-use Rattle.cases.proofs.Cases.{no_format, too_big, held_is, area_fits, product_fits}
+use Rattle.cases.proofs.Cases.{no_format, too_big, held_is, product_fits}
 use Rattle.cases.proofs.case.held.Goals as goal
 
 pub returns-then-size-eq0 : goal.returns-then-size-eq0

@@ -1,6 +1,6 @@
 -- `lay_both` lays both out where both have room.
 use mathlib.Core.Path.{sym}
-use lib.ListN.{length, take}
+use lib.ListN.{length}
 use lib.Seq.{length-take-le}
 use Rattle.cases.specs.Place.{taken}
 use Rattle.cases.proofs.Cases.{within, fills, no_first, no_second, both_laid}

@@ -1,6 +1,5 @@
 -- The words are taken in one by one.
 use mathlib.Core.Path.{◌≡◌, ◌∙◌}
-use Prim.Native.Nat.{ℕ}
 use Rattle.std.proofs.Common.{rules}
 use Rattle.std.specs.Prelude.{fold}
 use Rattle.cases.specs.Hash.{hash_from, hash_of, bytes_of}

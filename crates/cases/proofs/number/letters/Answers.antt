@@ -1,7 +1,6 @@
 -- `letters` takes letters in while there are some.
 use mathlib.Core.Path.{◌≡◌, refl, sym, ◌∙◌}
-use Prim.Native.Nat.{ℕ}
-use Rattle.std.proofs.Common.{Option, None}
+use Rattle.std.proofs.Common.{None}
 use Rattle.cases.proofs.Numbers.{letter_more, no_letter, too_long, letters_end}
 use Rattle.cases.specs.Number.{letters}
 use lib.ListN.{drop}

@@ -1,7 +1,5 @@
 -- `named` reads what is behind a name.
 use mathlib.Core.Path.{sym, ◌∙◌, ap}
-use Prim.Native.Nat.{ℕ}
-use mathlib.Core.List.{List}
 use Rattle.cases.specs.Number.{natural}
 use Rattle.cases.proofs.Numbers.{with_name, without_name}
 use Rattle.cases.proofs.number.named.Goals as goal

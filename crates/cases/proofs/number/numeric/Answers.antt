@@ -1,5 +1,4 @@
 -- `numeric` reads by kind.
-use mathlib.Core.Path.{◌≡◌, refl, sym, ◌∙◌, ap}
 use mathlib.Core.List.{◌∷◌}
 use Rattle.cases.specs.Line.{words}
 use Rattle.cases.specs.Number.{numeric, number_of}

@@ -1,5 +1,5 @@
 -- `read_kind` reads the first word left.
-use mathlib.Core.Path.{sym, ◌∙◌, ap}
+use mathlib.Core.Path.{sym, ap}
 use Rattle.cases.specs.Line.{Got, after}
 use Rattle.cases.specs.Place.{words_left}
 use Rattle.cases.proofs.Numbers.{numeric_lost}

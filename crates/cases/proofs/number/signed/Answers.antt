@@ -1,5 +1,5 @@
 -- `signed` reads a number, or a minus and a number.
-use mathlib.Core.Path.{sym, ◌∙◌, ap}
+use mathlib.Core.Path.{◌∙◌, ap}
 use Rattle.cases.specs.Number.{natural}
 use Rattle.cases.proofs.Numbers.{after_byte, no_negative, a_negative, plain_number}
 use native.Mathlib.Omega.{arith}

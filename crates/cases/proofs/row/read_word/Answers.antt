@@ -1,5 +1,4 @@
 -- A word by its kind.
-use mathlib.Core.Path.{sym}
 use Rattle.cases.specs.Row.{word_of, row_length, rule_number}
 use Rattle.cases.proofs.Rows.{other_word}
 use Rattle.cases.proofs.row.read_word.Goals as goal

@@ -1,5 +1,4 @@
 -- An argument by its kind.
-use mathlib.Core.Path.{sym}
 use Rattle.cases.specs.Line.{got}
 use Rattle.cases.specs.Place.{taken, left_of}
 use Rattle.cases.specs.Row.{arg_of, seeded, numbered}

@@ -1,9 +1,5 @@
 -- `decode` fills from the front, two digits for each byte.
-use mathlib.Core.Path.{◌≡◌, refl, sym, ◌∙◌, ap}
-use Prim.Native.Nat.{ℕ, ◌<◌, ◌+◌, ◌*◌}
 use native.Mathlib.Omega.{arith}
-use lib.ListN.{length, length-set, drop_of_length-le}
-use Rattle.cases.specs.Place.{pairs}
 use Rattle.cases.proofs.Fills.{fill_step, fill_end}
 use Rattle.cases.proofs.Seeds.{length_pairs, pair_more, no_pairs}
 use Rattle.cases.proofs.seed.decode.Goals as goal

@@ -1,5 +1,5 @@
 -- A file by its word: a minus, or hex of a byte at least.
-use mathlib.Core.Path.{refl, sym, ◌∙◌}
+use mathlib.Core.Path.{sym, ◌∙◌}
 use borrow.Author.Tests.{eqb-true, eqb-false}
 use Rattle.cases.specs.Place.{pairs}
 use Rattle.cases.proofs.Seeds.{no_file, is_word, is_not, is_none, empty_file, file_lost, file_read}

@@ -1,6 +1,6 @@
 -- A seed by its word: `z`, or `x` and hex, or a number.
 use mathlib.Core.Path.{sym, ◌∙◌, ap}
-use Rattle.cases.specs.Seed.{given, counted, given_hex, counted_by}
+use Rattle.cases.specs.Seed.{given_hex, counted_by}
 use Rattle.cases.proofs.Numbers.{after_byte}
 use Rattle.cases.proofs.Seeds.{no_seed, is_word, is_not, is_zeros, seed_lost, seed_read, with_x, without_x}
 use Rattle.cases.proofs.seed.read_seed.Goals as goal

@@ -1,7 +1,4 @@
 -- `sow` fills the bytes by the seed's kind.
-use mathlib.Core.Path.{◌≡◌, sym, ◌∙◌, ap}
-use Prim.Native.Nat.{ℕ}
-use lib.ListN.{length, replicate}
 use Rattle.cases.specs.Seed.{first_bytes}
 use Rattle.cases.proofs.seed.sow.Goals as goal
 
