@@ -44,12 +44,10 @@ fn put_digits(out: &mut [u8], at: usize, base: u64, k: usize, n: u64) -> usize
     requires k_in_bounds { at + k ≤ length out.old }
     ensures { Wrote (spelled base k n) out.old at out.new result }
 {
-    let mut i = k;
     let mut rest = n;
-    while 0 < i {
-        i -= 1;
+    for i in (0..k).rev() {
         out[at + i] = glyph(rest % base);
-        rest = rest / base;
+        rest /= base;
     }
     at + k
 }
@@ -60,16 +58,14 @@ fn places(base: u64, n: u64) -> usize
     ensures value { result ≡ places_of base 19 n }
     ensures upper_bound { result ≤ 20 }
 {
-    let mut k = 1;
     let mut rest = n;
-    while k < 20 {
+    for k in 1..20 {
         if rest < base {
             return k;
         }
-        rest = rest / base;
-        k += 1;
+        rest /= base;
     }
-    k
+    20
 }
 
 // Puts a number.

@@ -1,7 +1,7 @@
 -- `put_text` copies a text over as many bytes.
 use mathlib.Core.Path.{◌≡◌, refl, sym}
 use mathlib.Core.List.{append_assoc}
-use Prim.Native.Nat.{ℕ, ◌+◌, ◌-◌}
+use Prim.Native.Nat.{◌+◌, ◌-◌}
 use native.Mathlib.Omega.{arith}
 use lib.ListN.{length}
 use lib.Seq.{drop-drop}
