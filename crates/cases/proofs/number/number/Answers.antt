@@ -28,7 +28,8 @@ returns-then-from-longer c =
     let l = c.loop-b in
     let d = c.in_ok-digit.ensures in
     let k : c.in_ok-digit.digit < 10 = below_ten _ _ d.value in
-    let lost = digit_beyond c.args.most l.value c.args.word.now l.b-index c.from.result c.loop-b-test.true c.from.ensures c.in_ok-digit.digit d.cases k (omega (arith, c.from-in-loop-b.ensures, c.from-in-loop-b-2.ensures, c.from-in-loop-b-3.ensures)) in
+    let lost = digit_beyond c.args.most l.value c.args.word.now l.b-index c.from.result c.loop-b-test.true c.from.ensures c.in_ok-digit.digit d.cases k
+    (omega (arith, c.from-in-loop-b.ensures, c.from-in-loop-b-2.ensures, c.from-in-loop-b-3.ensures)) in
     sym (begun c.args.most c.args.word.now (some_word _ _ c.is_empty.ensures c.if-is_empty.false) ∙ l.invariant.still ∙ lost)
 
 pub loop-b-preserved : goal.loop-b-preserved
@@ -39,10 +40,13 @@ loop-b-preserved c =
     let fits : c.from-in-loop-b.result * 10 + c.from-in-loop-b-2.result ≤ c.args.most = omega (arith, c.from-in-loop-b-3.ensures) in
     record {
       within = fits;
-      still = l.invariant.still ∙ (rw (c.from-in-loop-b.ensures, c.from-in-loop-b-2.ensures) (digit_more c.args.most l.value c.args.word.now l.b-index c.from.result c.loop-b-test.true c.from.ensures c.in_ok-digit.digit d.cases k (rw (c.from-in-loop-b.ensures, c.from-in-loop-b-2.ensures) at fits)));
+      still = l.invariant.still ∙ (rw (c.from-in-loop-b.ensures, c.from-in-loop-b-2.ensures)
+          (digit_more c.args.most l.value c.args.word.now l.b-index c.from.result c.loop-b-test.true c.from.ensures c.in_ok-digit.digit d.cases k
+          (rw (c.from-in-loop-b.ensures, c.from-in-loop-b-2.ensures) at fits)));
     }
 
 pub returns : goal.returns
 returns c =
     let l = c.loop-b in
-    sym (begun c.args.most c.args.word.now (some_word _ _ c.is_empty.ensures c.if-is_empty.false) ∙ l.invariant.still ∙ digits_end c.args.most l.value c.args.word.now l.b-index c.loop-b-test.false)
+    sym (begun c.args.most c.args.word.now (some_word _ _ c.is_empty.ensures c.if-is_empty.false) ∙ l.invariant.still ∙
+    digits_end c.args.most l.value c.args.word.now l.b-index c.loop-b-test.false)
