@@ -1,6 +1,6 @@
 -- The record of its bytes.
 use Rattle.replies.specs.Numbers.{color_at}
-use Rattle.replies.proofs.numbers.color.Goals as goal
+use Rattle.replies.proofs.numbers.Row.color.Goals as goal
 
 pub returns : goal.returns
 unfolding color_at

@@ -1,6 +1,6 @@
 -- The record of its numbers.
 use Rattle.replies.specs.Numbers.{canvas_at}
-use Rattle.replies.proofs.numbers.sized.Goals as goal
+use Rattle.replies.proofs.numbers.Row.canvas.Goals as goal
 
 pub returns : goal.returns
 unfolding canvas_at

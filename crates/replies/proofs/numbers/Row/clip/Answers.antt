@@ -1,7 +1,7 @@
 -- The record of its numbers.
 use Rattle.replies.specs.Numbers.{clip_at}
 use Rattle.replies.proofs.Ops.{reaches}
-use Rattle.replies.proofs.numbers.clip.Goals as goal
+use Rattle.replies.proofs.numbers.Row.clip.Goals as goal
 
 pub returns : goal.returns
 unfolding clip_at
