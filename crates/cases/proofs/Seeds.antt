@@ -2,12 +2,12 @@
 use mathlib.Core.Bool.{Bool, true, false, ◌&&◌, cond, true≢false}
 use mathlib.Core.List.{List, [], ◌∷◌}
 use mathlib.Core.Path.{◌≡◌, refl, sym, ◌∙◌, ap}
-use Prim.Native.Nat.{ℕ, zero, suc, ◌+◌, ◌*◌, ◌/◌, ◌%◌, ◌<◌, ◌≤◌}
+use Prim.Native.Nat.{ℕ, suc, ◌+◌, ◌*◌, ◌/◌, ◌%◌, ◌<◌, ◌≤◌}
 use native.Mathlib.Decide.{dec_le, ℕ_discrete}
 use native.Mathlib.Omega.{arith}
 use lib.Dec.{eqb, ltb, leb}
 use native.Mathlib.Nat.{lt_of_not-le}
-use lib.ListN.{length, take, drop, get_or, replicate, length-drop}
+use lib.ListN.{length, take, drop, get_or, length-drop}
 use lib.Seq.{drop-cons}
 use lib.Pointwise.{pointwise}
 use borrow.Author.Tests.{le-leb, lt-leb, lt-ltb, le-ltb, eq-eqb, ne_eqb, eqb-true}
@@ -213,8 +213,3 @@ module _ (l : Option (Bor (List ℕ))) where
       pub file_read : (length w ≡ 0 → ⊥) → (s : Sown) → Some s ≡ given_hex w → file_of (left_of l) ≡ got s (left_of l')
       unfolding file_of name_of next after
       file_read z s h = rw (e, other_name 45 w (left_of l') (omega arith) (omega arith) n, some_hex w z, ← h)
-
-pub still : (n : ℕ) → turns 0 n 0 ≡ replicate n 0
-unfolding turns
-still zero = refl
-still (suc n) = ap (λ (t : List ℕ). 0 ∷ t) (still n)
