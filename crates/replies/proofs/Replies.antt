@@ -43,8 +43,8 @@ no_return line h = rw (sym (last_is line) ∙ h)
 
 pub stripped : (line : Bor (List ℕ)) (r : Option (Bor (List ℕ)))
     → MatchOption r (pointwise eqb (drop (length line.now - 1) line.now) (13 ∷ []) ≡ false)
-      (λ x. (pointwise eqb (drop (length line.now - 1) line.now) (13 ∷ []) ≡ true) × (x.now ≡ take (length line.now - 1) line.now)
-        × (length x.now + 1 ≡ length line.now))
+    (λ x. (pointwise eqb (drop (length line.now - 1) line.now) (13 ∷ []) ≡ true) × (x.now ≡ take (length line.now - 1) line.now)
+    × (length x.now + 1 ≡ length line.now))
     → (unwrap_or r line).now ≡ without_return line.now
 stripped line None m = no_return line.now m
 stripped line (Some x) m = m.1 ∙ a_return line.now m.0

@@ -66,6 +66,7 @@ fn get(n: Row, v: Canvas, bytes: &[u8]) -> Answer
 }
 
 // The status of a file's reading, and the image; one without pixels where the file is refused.
+#[tactic(auto, unfolding(lbmp::specs::Call::reads))]
 fn judged(j: Judged) -> (u32, Image)
     ensures { reading result.0 result.1.width result.1.height result.1.clear ≡ judged_as j }
 {
@@ -109,6 +110,7 @@ fn bitmap(room: u32, file: &[u8], words: &mut [u32]) -> Answer
 }
 
 // Where an icon's part of the file starts; an empty part is at 0.
+#[tactic(auto, unfolding(crate::specs::Answers::start_of))]
 fn start_of(i: Icon) -> u64
     ensures { result ≡ start_of i.start i.width i.height }
 {
@@ -152,7 +154,10 @@ pub(crate) fn respond(c: Case, bytes: &mut [u8], image: &[u8], words: &mut [u32]
     ensures { response result bytes.new words.new ≡ respond_to c bytes.old image.now words.old }
 {
     let Case {
-        name, head, args, ..
+        name,
+        head,
+        args,
+        ..
     } = c;
     let head = Row { words: head };
     let args = Row { words: args };

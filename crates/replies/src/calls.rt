@@ -17,17 +17,7 @@ fn picture_call(op: u64, n: Row, v: Canvas, k: Clip, image: &[u8], bytes: &mut [
     let x = n.int(0);
     let y = n.int(1);
     match op {
-        COPY => images::copy_area(
-            v,
-            bytes,
-            x,
-            y,
-            n.int(2),
-            n.int(3),
-            n.word(4),
-            n.word(5),
-            k,
-        ),
+        COPY => images::copy_area(v, bytes, x, y, n.int(2), n.int(3), n.word(4), n.word(5), k),
         DRAW => {
             let w = n.word(2);
             let h = n.word(3);

@@ -38,6 +38,7 @@ impl Row {
     }
 
     // COL, which begins at the word i.
+    #[tactic(auto, unfolding(crate::specs::Numbers::color_at))]
     pub(crate) fn color(self, i: usize) -> Color
         requires { i ≤ 12 }
         ensures { result ≡ color_at self.words i }
@@ -51,6 +52,7 @@ impl Row {
     }
 
     // CLIP, which begins at the word i.
+    #[tactic(auto, unfolding(crate::specs::Numbers::clip_at))]
     pub(crate) fn clip(self, i: usize) -> Clip
         requires { i ≤ 12 }
         ensures { result ≡ clip_at self.words i }
@@ -64,6 +66,7 @@ impl Row {
     }
 
     // A canvas, whose format, width and height begin at the word i, and whose row length and rule begin at the word j.
+    #[tactic(auto, unfolding(crate::specs::Numbers::canvas_at))]
     pub(crate) fn canvas(self, i: usize, j: usize, xor: bool) -> Canvas
         requires i_bound { i ≤ 12 }
         requires j_bound { j < 15 }
@@ -81,6 +84,7 @@ impl Row {
 }
 
 // The word at which CLIP begins; COL, where an op has it, ends there.
+#[tactic(auto, unfolding(crate::specs::Numbers::clip_start))]
 pub(crate) fn clip_at(name: u64) -> usize
     ensures value { result ≡ clip_start name }
     ensures lower_bound { (4 ≤ result) × (result ≤ 12) }
