@@ -66,8 +66,8 @@ fn in_order(from: u64, to: u64) -> Span
 fn side_between(from: u64, end: u64, n: u32) -> Span
     ensures { result ≡ in_order (from - 2147483648) (min (end - 2147483648) n) }
 {
-    let to = end.saturating_sub(ORIGIN).min(n as u64);
-    in_order(from.saturating_sub(ORIGIN), to)
+    let to = end.saturating_sub(ORIGIN);
+    in_order(from.saturating_sub(ORIGIN), to.min(n as u64))
 }
 
 // What the span of len from a lifted p has of a canvas's side of n pixels inside the clip's span of m from c.
