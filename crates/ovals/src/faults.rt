@@ -8,19 +8,13 @@ use canvas::faults::or_else;
 fn beyond(a: i32, low: i32, high: i32) -> bool
     ensures { result ≡ outside low high a }
 {
-    if a < low {
-        return true;
-    }
-    high < a
+    a < low || high < a
 }
 
 fn angle_fault(start: i32, arc: i32) -> Result<(), Refusal>
     ensures { result ≡ angle_fault start arc }
 {
-    if beyond(start, -720, 720) {
-        return Err(Refusal::Angle);
-    }
-    if beyond(arc, -720, 720) {
+    if beyond(start, -720, 720) || beyond(arc, -720, 720) {
         return Err(Refusal::Angle);
     }
     Ok(())
@@ -30,16 +24,7 @@ fn angle_fault(start: i32, arc: i32) -> Result<(), Refusal>
 pub(crate) fn shape_fault(x: i32, y: i32, w: u32, h: u32) -> Result<(), Refusal>
     ensures { result ≡ shape_fault x y w h }
 {
-    if beyond(x, -32768, 32767) {
-        return Err(Refusal::Shape);
-    }
-    if beyond(y, -32768, 32767) {
-        return Err(Refusal::Shape);
-    }
-    if 32767 < w {
-        return Err(Refusal::Shape);
-    }
-    if 32767 < h {
+    if beyond(x, -32768, 32767) || beyond(y, -32768, 32767) || 32767 < w || 32767 < h {
         return Err(Refusal::Shape);
     }
     Ok(())

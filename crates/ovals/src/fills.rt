@@ -83,10 +83,7 @@ pub(crate) fn corners_of(x: i32, y: i32, w: u32, h: u32, aw: u32, ah: u32) -> Co
 pub(crate) fn is_plain(w: u32, h: u32, aw: u32, ah: u32) -> bool
     ensures { result ≡ ((w == 0 || h == 0) || (aw == 0 || ah == 0)) }
 {
-    if is_empty(w, h) {
-        return true;
-    }
-    is_empty(aw, ah)
+    is_empty(w, h) || is_empty(aw, ah)
 }
 
 // The plots of a filled round rectangle; where an arc size is 0, of a plain one.

@@ -25,23 +25,7 @@ fn held(v: u64, low: usize, high: usize) -> usize
     requires { (low ≤ high) × (high ≤ 32767) }
     ensures { result ≡ min (max (v - 2147483648) low) high }
 {
-    if v < 2147483648 + low as u64 {
-        return low;
-    }
-    if v > 2147483648 + high as u64 {
-        return high;
-    }
-    (v - 2147483648) as usize
-}
-
-// The place after i, x1 at most.
-fn past(i: usize, x1: usize) -> usize
-    ensures { result ≡ min (i + 1) x1 }
-{
-    if i < x1 {
-        return i + 1;
-    }
-    x1
+    v.saturating_sub(2147483648).clamp(low as u64, high as u64) as usize
 }
 
 // The pixels of a part of a row that the sweep has, run after run.
@@ -65,7 +49,7 @@ fn sift_row(
         ink_row(canvas, b, y, x, to, ink);
         let landed = n.landed + (to - x) as u64;
         n = Tally { landed };
-        x = next(k, y as u16, past(to, x1), x1, true);
+        x = next(k, y as u16, (to + 1).min(x1), x1, true);
     }
     n
 }
@@ -116,18 +100,6 @@ fn run_row(
     swept_row(canvas, b, k, y, from, to, ink, t)
 }
 
-// Where to look for a run: at r, or at the last place of the left half.
-fn hint(r: u32, n: u32) -> u32
-    requires { 1 ≤ n }
-    ensures { 2 * result < n }
-{
-    let last = (n - 1) / 2;
-    if last < r {
-        return last;
-    }
-    r
-}
-
 // The pixels of a box that the region takes, row by row.
 fn run_box(
     canvas: Canvas,
@@ -145,18 +117,15 @@ fn run_box(
     requires { (Sized canvas b.old) × ((xs.from ≤ xs.to) × ((xs.to ≤ canvas.width) × ((ys.to ≤ canvas.height) × (((p < 17179869184) × ((q < 17179869184) × ((Sided sx) × (Sided sy)))) × ((Lies p sx.count xs.from xs.to) × ((Lies q sy.count ys.from ys.to) × ((Fits (land canvas (sifted (region_at sx sy k p q) (inked ink) (run xs.from (xs.to - xs.from)) (run ys.from (ys.to - ys.from))) (work b.old t)).tally) × (Asks k p sx.count q sy.count)))))))) }
     ensures { work b.new result ≡ land canvas (sifted (region_at sx sy k p q) (inked ink) (run xs.from (xs.to - xs.from)) (run ys.from (ys.to - ys.from))) (work b.old t) }
 {
-    let x0 = xs.from;
-    let x1 = xs.to;
-    let y1 = ys.to;
+    // a run is looked for at that of the row before, or at the last place of the left half
+    let last = (sx.count - 1) / 2;
     let mut n = t;
-    let mut y = ys.from;
-    let mut i = hint(sx.arc / 2, sx.count);
-    while y < y1 {
+    let mut i = (sx.arc / 2).min(last);
+    for y in ys.from..ys.to {
         let row = part(sy, (y as u64 + 2147483648 - q) as u32);
         let r = first(sx, row, i);
-        n = run_row(canvas, b, sx, sy, k, p, q, r, y, x0, x1, ink, n);
-        i = hint(r, sx.count);
-        y = y + 1;
+        n = run_row(canvas, b, sx, sy, k, p, q, r, y, xs.from, xs.to, ink, n);
+        i = r.min(last);
     }
     n
 }

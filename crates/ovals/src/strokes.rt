@@ -1,5 +1,5 @@
 // Strokes: arcs, and the quarters of a round rectangle's corners.
-ghost use Rattle.std.specs.Prelude.{◌≡◌, suc, ◌<◌, ◌≤◌, min, length};
+ghost use Rattle.std.specs.Prelude.{◌≡◌, suc, ◌<◌, ◌≤◌};
 ghost use Rattle.floats.specs.Degrees.{radians_of};
 ghost use Rattle.words.specs.Ink.{inked};
 ghost use Rattle.pixels.specs.Bytes.{size, Sized};
@@ -30,33 +30,24 @@ fn dab_spots(
     xs: Span,
     ys: Span,
     n: usize,
-    ps: &[u32],
-    qs: &[u32],
+    ps: &[u32; 16],
+    qs: &[u32; 16],
     m: usize,
     ink: Ink,
     t0: Tally,
 ) -> Tally
-    requires sized { (Sized canvas b.old) × ((Fields canvas xs ys) × ((n ≡ size canvas) × (m ≤ 16))) }
-    requires ps_len { (length ps.now ≡ 16) × ((length qs.now ≡ 16) × (Fits (plus t0 m))) }
+    requires sized { Sized canvas b.old }
+    requires fields { Fields canvas xs ys }
+    requires pixel { n ≡ size canvas }
+    requires few { m ≤ 16 }
+    requires fits { Fits (plus t0 m) }
     ensures { work b.new result ≡ dabs canvas xs ys (inked ink) (spots_at ps.now qs.now 0 m) (work b.old t0) }
 {
     let mut t = t0;
-    let mut j = 0;
-    while j < m {
-        t = dab(canvas, b, xs, ys, n, ps[j] as u64, qs[j] as u64, ink, t);
-        j = j + 1;
+    for j in 0..m {
+        t = dab(canvas, b, xs, ys, n, u64::from(ps[j]), u64::from(qs[j]), ink, t);
     }
     t
-}
-
-// So many, and 16 at most.
-fn up_to_16(n: u32) -> u32
-    ensures { result ≡ min n 16 }
-{
-    if n < 16 {
-        return n;
-    }
-    16
 }
 
 // The plots of a stroke of so many steps, the first and the last included, 16 at a time.
@@ -79,12 +70,10 @@ fn stroke_steps(
     let mut ps = [0u32; 16];
     let mut qs = [0u32; 16];
     let mut t = t0;
-    let mut i = 0u32;
-    while i <= steps {
+    for i in (0..=steps).step_by(16) {
         curves::strokes::spots_from(o, start, sweep, i, steps, &mut ps, &mut qs);
-        let m = up_to_16(steps + 1 - i);
+        let m = (steps + 1 - i).min(16);
         t = dab_spots(canvas, b, xs, ys, n, &ps, &qs, m as usize, ink, t);
-        i = i + m;
     }
     t
 }

@@ -1,6 +1,5 @@
 -- The bounds of angles and of boxes: as the code asks them, and what they give.
 use Rattle.std.proofs.Common.{◌≡◌, ℕ, suc, ◌≤◌, Bool, true, false, ◌||◌, ltb, ℤ, pos, negsuc, nat_abs, sym, refl, ◌∙◌, arith, w32, SFits, to_z, of_z, ltb-false, Ok}
-use lib.Signed.{lt_z}
 use mir.ValLaws.{to_z-of_z}
 use Rattle.canvas.specs.declared.Refusal.TheVariants.{Shape}
 use Rattle.canvas.specs.Faults.{Verdict}
@@ -8,17 +7,9 @@ use Rattle.ovals.specs.Faults.{outside, angle_fault, shape_fault, arc_fault, Sha
 use Rattle.words.proofs.Either.{neither}
 use Rattle.canvas.proofs.faults.Verdicts.{passes, both_sound}
 
--- signed arguments reach a test as `to_z w (of_z w x)`
-module _ (a low high : ℤ) (sa : SFits w32 a) (sl : SFits w32 low) (sh : SFits w32 high) where
-  pub is_below : lt_z (to_z w32 (of_z w32 a)) (to_z w32 (of_z w32 low)) ≡ true → true ≡ outside low high a
-  is_below h = let e : lt_z a low ≡ true = rw (to_z-of_z w32 a sa, to_z-of_z w32 low sl) at h in rw e refl
-
-  pub is_above : lt_z (to_z w32 (of_z w32 a)) (to_z w32 (of_z w32 low)) ≡ false → lt_z (to_z w32 (of_z w32 high)) (to_z w32 (of_z w32 a)) ≡ outside low high a
-  is_above h = let e : lt_z a low ≡ false = rw (to_z-of_z w32 a sa, to_z-of_z w32 low sl) at h in rw (e, to_z-of_z w32 a sa, to_z-of_z w32 high sh) refl
-
--- what `beyond` answered of an argument
-pub told : (low high a : ℤ) (r t : Bool) → SFits w32 a → r ≡ outside low high (to_z w32 (of_z w32 a)) → r ≡ t → outside low high a ≡ t
-told low high a r t s e h = sym (rw (to_z-of_z w32 a s) at e) ∙ h
+-- what `beyond` answered of an argument, which reaches it as `to_z w (of_z w x)`
+pub told : (low high a : ℤ) {r t : Bool} → SFits w32 a → r ≡ outside low high (to_z w32 (of_z w32 a)) → r ≡ t → outside low high a ≡ t
+told low high a s e h = sym (rw (to_z-of_z w32 a s) at e) ∙ h
 
 -- what `shape_fault` and `arc_fault` answered of arguments
 pub shape_of : (x y : ℤ) (w h : ℕ) (d : Verdict) → SFits w32 x → SFits w32 y → d ≡ shape_fault (to_z w32 (of_z w32 x)) (to_z w32 (of_z w32 y)) w h → d ≡ shape_fault x y w h

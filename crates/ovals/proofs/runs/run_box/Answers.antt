@@ -3,31 +3,10 @@ use Rattle.std.proofs.Common.{◌-◌, arith}
 use Rattle.words.specs.Ink.{inked}
 use Rattle.pixels.specs.Rows.{run}
 use Rattle.ovals.specs.Sift.{sifts, region_at}
-use Rattle.ovals.proofs.runs.Sifts.{left-start, left-length, left-sized, rows-room, rows-turn, rows_end}
-use Rattle.ovals.proofs.runs.Rows.{at_row, in_rows, rising_row, run_of}
+use Rattle.ovals.proofs.runs.Sifts.{left-sized, rows-room, rows-turn, rows_end}
+use Rattle.ovals.proofs.runs.Rows.{in_rows, rising_row, run_of}
 use Rattle.ovals.proofs.runs.Asked.{asks_row}
 use Rattle.ovals.proofs.runs.run_box.Goals as goal
-
-pub hint-i-requires : goal.hint-i-requires
-hint-i-requires c = c.requires.1.1.1.1.0.1.1.0.some
-
-pub loop-y-init : goal.loop-y-init
-loop-y-init c = (record { from = omega arith; left = left-start }, c.hint-i.ensures)
-
-pub overflow_add-y : goal.overflow_add-y
-overflow_add-y c = record { fits = omega (arith, c.requires.0.high, c.requires.1.1.1.0, c.loop-y-test.true) }
-
-pub overflow_sub-y : goal.overflow_sub-y
-overflow_sub-y c =
-    at_row c.args.q _ _ _ _ c.requires.1.1.1.1.1.1.0 c.loop-y.invariant.0.from c.loop-y-test.true
-
-pub overflow_cast-y : goal.overflow_cast-y
-overflow_cast-y c =
-    record { fits = omega (arith, in_rows c.args.q _ _ _ _ c.requires.1.1.1.1.1.1.0 c.loop-y.invariant.0.from c.loop-y-test.true, c.requires.1.1.1.1.0.1.1.1.few) }
-
-pub part-row-requires : goal.part-row-requires
-part-row-requires c =
-    (c.requires.1.1.1.1.0.1.1.1, in_rows c.args.q _ _ _ _ c.requires.1.1.1.1.1.1.0 c.loop-y.invariant.0.from c.loop-y-test.true)
 
 pub first-r-requires : goal.first-r-requires
 first-r-requires c =
@@ -56,20 +35,14 @@ run_row-n-requires c =
     let few = p.1.1.1.1.0.1.1.0.few in
     (left-sized l.invariant.0.left p.0, (p.1.0, (p.1.1.0, (omega (arith, loop-test.true, p.1.1.1.0), (p.1.1.1.1.0.0, (few, (r, (p.1.1.1.1.1.0, (s, w)))))))))
 
-pub hint-i-requires-in-loop-y : goal.hint-i-requires-in-loop-y
-hint-i-requires-in-loop-y c = c.requires.1.1.1.1.0.1.1.0.some
-
 pub loop-y-preserved : goal.loop-y-preserved
 loop-y-preserved c =
     let a = c.args in
     let l = c.loop-y in
     let hits = sifts (region_at a.sx a.sy a.k a.p a.q) (inked a.ink) (run a.xs.from (a.xs.to - a.xs.from)) in
-    let taken = c.loop-y-test.true in
-    let next = rows-turn a.canvas hits l.y a.ys.to l.invariant.0.left taken _ c.run_row-n.ensures in
-    (record { from = omega (arith, l.invariant.0.from); left = next }, c.hint-i-in-loop-y.ensures)
-
-pub shape_of-b : goal.shape_of-b
-shape_of-b c = left-length c.loop-y.invariant.0.left
+    let next = rows-turn a.canvas hits l.y a.ys.to l.invariant.0.left c.loop-y-test.true _ c.run_row-n.ensures in
+    let some = c.requires.1.1.1.1.0.1.1.0.some in
+    (record { from = omega (arith, l.invariant.0.from); left = next }, omega (arith, c.min-i-in-loop-y.ensures, some))
 
 pub returns : goal.returns
 returns c =

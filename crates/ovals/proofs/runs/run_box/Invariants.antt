@@ -9,9 +9,6 @@ use Rattle.ovals.proofs.runs.run_box.Given as goal
 
 abbrev pub invariant-loop-y : goal.invariant-loop-y
 invariant-loop-y l =
-    (Going l.canvas (sifts (region_at l.sx l.sy l.k l.p l.q) (inked l.ink) (run l.x0 (l.x1 - l.x0)))
-    l.initial.y l.y l.y1 (work l.b l.n) (work l.initial.b l.initial.n))
+    (Going l.canvas (sifts (region_at l.sx l.sy l.k l.p l.q) (inked l.ink) (run l.xs.from (l.xs.to - l.xs.from)))
+    l.fn.ys.from l.y l.fn.ys.to (work l.b l.n) (work l.initial.b l.initial.n))
     × (2 * l.i < l.sx.count)
-
-abbrev pub decreases-loop-y : goal.decreases-loop-y
-decreases-loop-y l = l.y1 - l.y

@@ -1,5 +1,4 @@
 -- What is left of the points leads to the same end.
-use Rattle.std.proofs.Common.{◌-◌}
 use Rattle.words.specs.Ink.{inked}
 use Rattle.canvas.specs.Walk.{work}
 use Rattle.ovals.proofs.strokes.Stroking.{Spotting}
@@ -7,6 +6,3 @@ use Rattle.ovals.proofs.strokes.dab_spots.Given as goal
 
 abbrev pub invariant-loop-j : goal.invariant-loop-j
 invariant-loop-j l = Spotting l.ps l.qs l.canvas l.xs l.ys (inked l.ink) l.m l.j (work l.b l.t) (work l.initial.b l.initial.t)
-
-abbrev pub decreases-loop-j : goal.decreases-loop-j
-decreases-loop-j l = l.m - l.j
