@@ -15,7 +15,8 @@ returns-in-1668247673 c =
     let a = c.args in
     named (λ o. picture_by o a.n.words a.v a.k a.image.now a.bytes.now) c.in-1668247673.is (copy_is a.n.words a.v a.k a.image.now a.bytes.now)
     (made₆ (λ x y z t w h. copy_area a.v x y z t w h a.k a.bytes.now)
-    (reaches _ c.int-x.type_inv c.int-x.ensures) (reaches _ c.int-y.type_inv c.int-y.ensures) (reaches _ c.int.type_inv c.int.ensures) (reaches _ c.int-in-1668247673.type_inv c.int-in-1668247673.ensures)
+    (reaches _ c.int-x.type_inv c.int-x.ensures) (reaches _ c.int-y.type_inv c.int-y.ensures) (reaches _ c.int.type_inv c.int.ensures)
+    (reaches _ c.int-in-1668247673.type_inv c.int-in-1668247673.ensures)
     c.word.ensures c.word-in-1668247673.ensures c.copy_area.ensures)
 
 pub returns-in-1685217655 : goal.returns-in-1685217655
