@@ -45,7 +45,17 @@ fn dab_spots(
 {
     let mut t = t0;
     for j in 0..m {
-        t = dab(canvas, b, xs, ys, n, u64::from(ps[j]), u64::from(qs[j]), ink, t);
+        t = dab(
+            canvas,
+            b,
+            xs,
+            ys,
+            n,
+            u64::from(ps[j]),
+            u64::from(qs[j]),
+            ink,
+            t,
+        );
     }
     t
 }

@@ -11,12 +11,12 @@ returns-then-beyond c =
     let a = c.args in
     let f = c.ranges in
     elim c.then-beyond.branch [
-      then-beyond-via-then-beyond w ↦ rw (told (negsuc 719) (pos 720) a.start f.start c.beyond.ensures w.if-beyond.true) refl
-    | then-beyond-via-else-beyond+then-beyond-2 w ↦
-        rw (
-          told (negsuc 719) (pos 720) a.start f.start c.beyond.ensures w.if-beyond.false,
-          told (negsuc 719) (pos 720) a.arc f.arc w.beyond-else-beyond.ensures w.if-beyond-2.true,
-        ) refl
+      | then-beyond-via-then-beyond w ↦ rw (told (negsuc 719) (pos 720) a.start f.start c.beyond.ensures w.if-beyond.true) refl
+      | then-beyond-via-else-beyond+then-beyond-2 w ↦
+          rw (
+            told (negsuc 719) (pos 720) a.start f.start c.beyond.ensures w.if-beyond.false,
+            told (negsuc 719) (pos 720) a.arc f.arc w.beyond-else-beyond.ensures w.if-beyond-2.true,
+          ) refl
     ]
 
 pub returns : goal.returns

@@ -7,4 +7,3 @@ use Rattle.ovals.proofs.strokes.stroke_steps.Given as goal
 
 abbrev pub invariant-loop-i : goal.invariant-loop-i
 invariant-loop-i l = Stroking l.o l.start l.sweep l.steps l.canvas l.xs l.ys (inked l.ink) l.i (work l.b l.t) (work l.initial.b l.initial.t)
-
