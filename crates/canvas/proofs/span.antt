@@ -2,6 +2,5 @@
 pub mod Lifts
 pub mod Spans
 pub mod Differences
-pub mod Signs
 pub mod Sources
 pub mod Corners

@@ -1,5 +1,6 @@
 -- Spans and clips, in whole numbers without wrap.
-use Rattle.std.specs.Prelude.{ℕ, Bool, cond, ◌&&◌, ℤ, pos, ◌+ℤ◌, ◌-ℤ◌, int_le, int_lt}
+use Rattle.std.specs.Prelude.{ℕ, Bool, ◌&&◌, ℤ, pos, ◌+ℤ◌, ◌-ℤ◌, int_le, int_lt}
+use Rattle.std.specs.Int.{int_min, int_max}
 use Rattle.floats.specs.Whole.{at_least0}
 use Rattle.canvas.specs.declared.Clip.{Clip}
 
@@ -11,21 +12,15 @@ within a n p = int_le a p && int_lt p (a +ℤ pos n)
 unfoldable pub in_clip : Clip → ℤ → ℤ → Bool
 in_clip c x y = within c.x c.width x && within c.y c.height y
 
-abbrev pub larger : ℤ → ℤ → ℤ
-larger a b = cond (int_le a b) b a
-
-abbrev pub smaller : ℤ → ℤ → ℤ
-smaller a b = cond (int_le a b) a b
-
 -- From the larger corner to the smaller end: "a negative extent becomes 0"
 unfoldable pub shared : ℤ → ℕ → ℤ → ℕ → ℕ
-shared a m b n = at_least0 (smaller (a +ℤ pos m) (b +ℤ pos n) -ℤ larger a b)
+shared a m b n = at_least0 (int_min (a +ℤ pos m) (b +ℤ pos n) -ℤ int_max a b)
 
 -- "`Clip::intersect` keeps the larger corner; a negative extent becomes 0."
 unfoldable pub intersection : Clip → Clip → Clip
 intersection c d = record {
-  x = larger c.x d.x;
-  y = larger c.y d.y;
+  x = int_max c.x d.x;
+  y = int_max c.y d.y;
   width = shared c.x c.width d.x d.width;
   height = shared c.y c.height d.y d.height;
 }

@@ -1,5 +1,6 @@
 -- What the contracts of the walk's inner functions speak of; no public contract cites this file.
 use Rattle.std.specs.Prelude.{◌≡◌, ℕ, zero, suc, ◌+◌, ◌-◌, ◌*◌, ◌<◌, ◌≤◌, Bool, true, false, cond, List, [], ◌∷◌, nat_le, nat_lt}
+use Rattle.std.specs.Int.{abs_diff}
 use Rattle.segments.specs.declared.Segment.{Segment}
 use Rattle.canvas.specs.declared.lines.Pen.{Pen}
 use Rattle.canvas.specs.declared.lines.Way.{Way}
@@ -7,16 +8,12 @@ use Rattle.canvas.specs.Plot.{Point, at}
 use Rattle.canvas.specs.Lines.{bresenham}
 use Rattle.canvas.specs.Walk.{lifted, lowered}
 
--- How far two numbers are from each other.
-abbrev pub apart : ℕ → ℕ → ℕ
-apart a b = (a - b) + (b - a)
-
 unfoldable pub way_of : Segment → Way
 way_of s = record {
   x = lifted s.x2;
   y = lifted s.y2;
-  dx = apart (lifted s.x1) (lifted s.x2);
-  dy = apart (lifted s.y1) (lifted s.y2);
+  dx = abs_diff (lifted s.x1) (lifted s.x2);
+  dy = abs_diff (lifted s.y1) (lifted s.y2);
   right = nat_lt (lifted s.x1) (lifted s.x2);
   down = nat_lt (lifted s.y1) (lifted s.y2);
 }
@@ -46,7 +43,7 @@ next w s = record {
 
 -- How far the longer side has still to go.
 unfoldable pub ahead : Way → Pen → ℕ
-ahead w s = cond (nat_le w.dy w.dx) (apart s.x w.x) (apart s.y w.y)
+ahead w s = cond (nat_le w.dy w.dx) (abs_diff s.x w.x) (abs_diff s.y w.y)
 
 unfoldable pub trail : Way → ℕ → Pen → List Point
 trail w zero s = at (lowered s.x) (lowered s.y) ∷ []
@@ -65,7 +62,7 @@ Side false x end = end ≤ x
 
 -- A walk on its way.
 pub record Goes (w : Way) (s : Pen) : Type 0 where
-  pub good : Good w.dx w.dy (apart s.x w.x) (apart s.y w.y) s.e
+  pub good : Good w.dx w.dy (abs_diff s.x w.x) (abs_diff s.y w.y) s.e
   pub side-x : Side w.right s.x w.x
   pub side-y : Side w.down s.y w.y
   pub low_x : s.x < 4294967296

@@ -22,12 +22,8 @@ fn invert_in(canvas: Canvas, b: &mut [u8], p: u64, q: u64, w: u32, h: u32, clip:
         (work b.old (record { landed = 0 })) (work b.new result) }
 {
     let plain = Canvas {
-        format: canvas.format,
-        width: canvas.width,
-        height: canvas.height,
-        row: canvas.row,
         xor: false,
-        rule: canvas.rule,
+        ..canvas
     };
     let ink = words::invert_ink(canvas.format);
     fill_in(plain, b, p, q, w, h, ink, clip, Tally { landed: 0 })

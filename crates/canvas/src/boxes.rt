@@ -19,10 +19,7 @@ use words::{Color, Ink};
 pub fn is_empty(w: u32, h: u32) -> bool
     ensures { result ≡ (w == 0 || h == 0) }
 {
-    if w == 0 {
-        return true;
-    }
-    h == 0
+    w == 0 || h == 0
 }
 
 // The plots of a filled box with a lifted corner.
@@ -72,10 +69,7 @@ pub fn fill_rect(
 fn between(side: u32, inset: u32) -> u32
     ensures { result ≡ side - 2 * inset }
 {
-    if side / 2 < inset {
-        return 0;
-    }
-    side - 2 * inset
+    side.saturating_sub(inset).saturating_sub(inset)
 }
 
 // The plots of two filled boxes of one size, with lifted corners.

@@ -16,7 +16,7 @@ pub fn or_else(f: Result<(), Refusal>, d: Result<(), Refusal>) -> Result<(), Ref
 fn is_unruly(rule: u32) -> bool
     ensures { result ≡ not (rule == 1 || rule == 2) }
 {
-    1 < std::num::wrapping_sub_u32(rule, 1)
+    1 < rule.wrapping_sub(1)
 }
 
 // Whether one of two numbers is above 32,767: then what has the bits of both is.
@@ -31,7 +31,7 @@ fn is_off(row: u32, width: u32) -> bool
     requires { width ≤ 32767 }
     ensures { result ≡ (nat_lt row width || nat_lt 32767 row) }
 {
-    is_large(row, std::num::wrapping_sub_u32(row, width))
+    is_large(row, row.wrapping_sub(width))
 }
 
 // The first fault of a canvas with so many bytes. The length is asked before the row, and the row is named where both

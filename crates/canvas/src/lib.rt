@@ -94,8 +94,8 @@ impl Clip {
         ensures { result ≡ intersection self other }
     {
         Clip {
-            x: crate::span::larger_of(self.x, other.x),
-            y: crate::span::larger_of(self.y, other.y),
+            x: self.x.max(other.x),
+            y: self.y.max(other.y),
             width: crate::span::shared_by(self.x, self.width, other.x, other.width),
             height: crate::span::shared_by(self.y, self.height, other.y, other.height),
         }

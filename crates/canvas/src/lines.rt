@@ -6,7 +6,7 @@ ghost use Rattle.canvas.specs.Plot.{inks};
 ghost use Rattle.canvas.specs.Lines.{bresenham, line};
 ghost use Rattle.canvas.specs.Call.{draw_line, leaves, call};
 ghost use Rattle.canvas.specs.Walk.{work, dabs, Did, Fields};
-ghost use Rattle.canvas.specs.Trail.{apart, way_of, pen_of, toward, across, along, next, ahead, trail, Goes, Steps, Sets};
+ghost use Rattle.canvas.specs.Trail.{way_of, pen_of, toward, across, along, next, ahead, trail, Goes, Steps, Sets};
 
 use crate::faults::judge;
 use crate::plot::dab;
@@ -36,15 +36,6 @@ struct Pen {
     e: u64,
 }
 
-fn distance(a: u64, b: u64) -> u64
-    ensures { result ≡ apart a b }
-{
-    if a < b {
-        return b - a;
-    }
-    a - b
-}
-
 fn way_of(s: Segment) -> Way
     ensures { result ≡ way_of s }
 {
@@ -55,8 +46,8 @@ fn way_of(s: Segment) -> Way
     Way {
         x,
         y,
-        dx: distance(x1, x),
-        dy: distance(y1, y),
+        dx: x1.abs_diff(x),
+        dy: y1.abs_diff(y),
         right: x1 < x,
         down: y1 < y,
     }
@@ -67,8 +58,8 @@ fn pen_of(s: Segment) -> Pen
 {
     let x = lift(s.x1);
     let y = lift(s.y1);
-    let dx = distance(x, lift(s.x2));
-    let dy = distance(y, lift(s.y2));
+    let dx = x.abs_diff(lift(s.x2));
+    let dy = y.abs_diff(lift(s.y2));
     Pen { x, y, e: dx + dy }
 }
 
@@ -77,10 +68,7 @@ fn moved(forward: bool, x: u64) -> u64
     requires { (x < 4294967296) × (forward ≡ false → 1 ≤ x) }
     ensures { result ≡ toward forward x }
 {
-    if forward {
-        return x + 1;
-    }
-    x - 1
+    if forward { x + 1 } else { x - 1 }
 }
 
 fn steps_x(w: Way, s: Pen) -> bool
@@ -147,10 +135,8 @@ fn walk(
     let mut s = from;
     loop {
         t = dab(canvas, b, xs, ys, n, s.x, s.y, ink, t);
-        if s.x == way.x {
-            if s.y == way.y {
-                break;
-            }
+        if s.x == way.x && s.y == way.y {
+            break;
         }
         s = advance(way, s);
     }
@@ -166,8 +152,7 @@ fn segment_in(canvas: Canvas, b: &mut [u8], s: Segment, ink: Ink, clip: Clip, t:
     let from = pen_of(s);
     let xs = window(clip.x, clip.width, canvas.width);
     let ys = window(clip.y, clip.height, canvas.height);
-    let f = canvas.format;
-    match f {
+    match canvas.format {
         0 => walk(canvas, b, xs, ys, 1, way, from, ink, t),
         1 => walk(canvas, b, xs, ys, 2, way, from, ink, t),
         _ => walk(canvas, b, xs, ys, 4, way, from, ink, t),

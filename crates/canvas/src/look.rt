@@ -6,7 +6,7 @@ ghost use Rattle.canvas.specs.Walk.{lowered};
 
 use crate::Refusal;
 use crate::faults::judge;
-use crate::span::lift;
+use crate::span::{ORIGIN, lift};
 use pixels::Canvas;
 use words::Color;
 
@@ -26,8 +26,8 @@ fn pixel_at(canvas: Canvas, b: &[u8], p: u64, q: u64) -> Option<Color>
     if !crate::plot::on_canvas(canvas, p, q) {
         return None;
     }
-    let x = (p - 2147483648) as usize;
-    let y = (q - 2147483648) as usize;
+    let x = (p - ORIGIN) as usize;
+    let y = (q - ORIGIN) as usize;
     let raw = pixels::bytes::load_at(canvas, b, x, y);
     Some(words::to_color(canvas.format, raw))
 }

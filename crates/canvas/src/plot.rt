@@ -8,7 +8,7 @@ ghost use Rattle.pixels.specs.Hits.{hit, touch};
 ghost use Rattle.canvas.specs.Walk.{lowered, plus, work, covers, dabbed, Fields, Fits, Ready, Did};
 
 use crate::faults::judge;
-use crate::span::{lift, on_side};
+use crate::span::{ORIGIN, lift, on_side};
 use crate::{Clip, Drawn, Tally};
 use pixels::Canvas;
 use pixels::rows::Span;
@@ -28,7 +28,7 @@ fn is_covered(s: Span, p: u64) -> bool
     requires { (s.from ≤ s.to) × (s.to ≤ 32767) }
     ensures { result ≡ covers s (lowered p) }
 {
-    let past = std::num::wrapping_sub_u64(p, 2147483648 + s.from as u64);
+    let past = p.wrapping_sub(ORIGIN + s.from as u64);
     past < (s.to - s.from) as u64
 }
 
@@ -66,8 +66,8 @@ pub fn dab(
     if !is_covered(ys, q) {
         return t;
     }
-    let x = (p - 2147483648) as usize;
-    let y = (q - 2147483648) as usize;
+    let x = (p - ORIGIN) as usize;
+    let y = (q - ORIGIN) as usize;
     touch_by(canvas, b, n, x, y, ink);
     landed_more(t, 1)
 }
@@ -76,10 +76,7 @@ pub fn dab(
 pub(crate) fn on_canvas(canvas: Canvas, p: u64, q: u64) -> bool
     ensures { result ≡ on_canvas canvas (lowered p) (lowered q) }
 {
-    if on_side(p, canvas.width) {
-        return on_side(q, canvas.height);
-    }
-    false
+    on_side(p, canvas.width) && on_side(q, canvas.height)
 }
 
 // A plot at a lifted point.
@@ -98,8 +95,8 @@ pub(crate) fn plot_at(
     if !on_canvas(canvas, p, q) {
         return t;
     }
-    let x = (p - 2147483648) as usize;
-    let y = (q - 2147483648) as usize;
+    let x = (p - ORIGIN) as usize;
+    let y = (q - ORIGIN) as usize;
     if !crate::span::in_clip(clip, x, y) {
         return t;
     }

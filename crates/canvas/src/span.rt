@@ -2,62 +2,27 @@
 ghost use Rattle.std.specs.Prelude.{◌≡◌, ◌+◌, ◌-◌, ◌<◌, min, max, pos, ◌+ℤ◌};
 ghost use Rattle.std.specs.Int.{w32};
 ghost use Rattle.std.proofs.Common.{to_z};
-ghost use Rattle.canvas.specs.Clip.{within, in_clip, larger, shared};
+ghost use Rattle.canvas.specs.Clip.{within, in_clip, shared};
 ghost use Rattle.canvas.specs.Walk.{lifted, lowered, in_order, cut_of};
 
 use crate::Clip;
 use pixels::rows::Span;
 
+// Where 0 lies among lifted numbers.
+pub const ORIGIN: u64 = 1 << 31;
+
 // The i32 with these 32 bits: the number itself below 2^31, else 2^32 less.
 pub fn signed(n: u32) -> i32
     ensures { result ≡ to_z w32 n }
 {
-    if n < 2147483648 {
-        return n as i32;
-    }
-    (n as i64 - 4294967296) as i32
-}
-
-// 2^31 above a signed number.
-fn raised(x: i32) -> i64
-    ensures { result ≡ x +ℤ pos 2147483648 }
-{
-    x as i64 + 2147483648
+    n.cast_signed()
 }
 
 // A signed number as one that is not negative, 2^31 above it.
 pub fn lift(x: i32) -> u64
     ensures { result ≡ lifted x }
 {
-    raised(x) as u64
-}
-
-// What a has above b.
-fn less(a: u64, b: u64) -> u64
-    ensures { result ≡ a - b }
-{
-    if a < b {
-        return 0;
-    }
-    a - b
-}
-
-fn least(a: u64, b: u64) -> u64
-    ensures { result ≡ min a b }
-{
-    if a < b {
-        return a;
-    }
-    b
-}
-
-fn most(a: u64, b: u64) -> u64
-    ensures { result ≡ max a b }
-{
-    if a < b {
-        return b;
-    }
-    a
+    ORIGIN.wrapping_add_signed(x as i64)
 }
 
 // Whether p is one of the n numbers from a on.
@@ -65,7 +30,7 @@ pub(crate) fn in_span(a: i32, n: u32, p: usize) -> bool
     requires { p < 32768 }
     ensures { result ≡ within a n (pos p) }
 {
-    let past = std::num::wrapping_sub_u64(2147483648 + p as u64, lift(a));
+    let past = (ORIGIN + p as u64).wrapping_sub(lift(a));
     past < n as u64
 }
 
@@ -74,18 +39,14 @@ pub(crate) fn in_clip(clip: Clip, x: usize, y: usize) -> bool
     requires { (x < 32768) × (y < 32768) }
     ensures { result ≡ in_clip clip (pos x) (pos y) }
 {
-    if in_span(clip.x, clip.width, x) {
-        return in_span(clip.y, clip.height, y);
-    }
-    false
+    in_span(clip.x, clip.width, x) && in_span(clip.y, clip.height, y)
 }
 
 // Whether a lifted number is on a side of n pixels.
 pub(crate) fn on_side(p: u64, n: u32) -> bool
     ensures { result ≡ within (pos 0) n (lowered p) }
 {
-    let at = std::num::wrapping_sub_u64(p, 2147483648);
-    at < n as u64
+    p.wrapping_sub(ORIGIN) < n as u64
 }
 
 // From one place up to another; where that is nothing, from 0 up to 0.
@@ -105,8 +66,8 @@ fn in_order(from: u64, to: u64) -> Span
 fn side_between(from: u64, end: u64, n: u32) -> Span
     ensures { result ≡ in_order (from - 2147483648) (min (end - 2147483648) n) }
 {
-    let to = less(end, 2147483648);
-    in_order(less(from, 2147483648), least(to, n as u64))
+    let to = end.saturating_sub(ORIGIN);
+    in_order(from.saturating_sub(ORIGIN), to.min(n as u64))
 }
 
 // What the span of len from a lifted p has of a canvas's side of n pixels inside the clip's span of m from c.
@@ -115,8 +76,8 @@ pub fn overlap(p: u64, len: u32, c: i32, m: u32, n: u32) -> Span
     ensures { result ≡ cut_of (p - 2147483648) (p + len - 2147483648) c m n }
 {
     let u = lift(c);
-    let end = least(p + len as u64, u + m as u64);
-    side_between(most(p, u), end, n)
+    let end = (p + len as u64).min(u + m as u64);
+    side_between(p.max(u), end, n)
 }
 
 // A canvas's side of n pixels inside the clip's span of m from c.
@@ -134,19 +95,10 @@ pub fn shown_in(p: u64, s: u64, len: u32, m: u32, c: i32, k: u32, n: u32) -> Spa
     ensures { result ≡ cut_of (max (p - 2147483648) (p - s)) (min (p + len - 2147483648) (p + m - s)) c k n }
 {
     let u = lift(c);
-    let q = p + 2147483648;
-    let from = most(most(p, u), less(q, s));
-    let end = least(p + len as u64, u + k as u64);
-    side_between(from, least(end, less(q + m as u64, s)), n)
-}
-
-pub(crate) fn larger_of(a: i32, b: i32) -> i32
-    ensures { result ≡ larger a b }
-{
-    if a <= b {
-        return b;
-    }
-    a
+    let q = p + ORIGIN;
+    let from = p.max(u).max(q.saturating_sub(s));
+    let end = (p + len as u64).min(u + k as u64);
+    side_between(from, end.min((q + m as u64).saturating_sub(s)), n)
 }
 
 // How far two spans go on together, from the larger start.
@@ -155,10 +107,7 @@ pub(crate) fn shared_by(a: i32, m: u32, b: i32, n: u32) -> u32
 {
     let u = lift(a);
     let v = lift(b);
-    let end = least(u + m as u64, v + n as u64);
-    let start = most(u, v);
-    if end < start {
-        return 0;
-    }
-    (end - start) as u32
+    let end = (u + m as u64).min(v + n as u64);
+    let start = u.max(v);
+    end.saturating_sub(start) as u32
 }

@@ -3,8 +3,7 @@ pub mod Determined
 pub mod Fills
 pub mod Hashes
 pub mod Numbers
-pub mod Named
-pub mod Reading
 pub mod Rows
 pub mod Seeds
 pub mod Texts
+pub mod Words

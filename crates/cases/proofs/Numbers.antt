@@ -1,235 +1,189 @@
 -- Numbers and names, letter by letter.
-use mathlib.Core.Bool.{Bool, true, false, not, ◌&&◌}
+use mathlib.Core.Bool.{Bool, true, false, ◌&&◌, cond, true≢false}
 use mathlib.Core.List.{List, [], ◌∷◌}
-use mathlib.Core.Logic.{◌⊎◌, inl, inr}
-use mathlib.Core.Path.{◌≡◌, refl, sym, ◌∙◌, ap, subst}
-use Prim.Native.Nat.{ℕ, ◌+◌, ◌-◌, ◌*◌, ◌%◌, ◌≤◌, ◌<◌}
-use native.Mathlib.Decide.{dec_le, ℕ_discrete}
+use mathlib.Core.Path.{◌≡◌, refl, sym, ◌∙◌, ap}
+use Prim.Native.Nat.{ℕ, ◌+◌, ◌-◌, ◌*◌, ◌%◌, ◌<◌, ◌≤◌}
+use native.Mathlib.Decide.{dec_le}
 use native.Mathlib.Nat.{lt_of_not-le}
+use native.Mathlib.Numerals.{add-one}
 use native.Mathlib.Omega.{arith}
-use lib.Dec.{T, leb, eqb}
-use lib.ListN.{length, get_or}
-use borrow.Author.Tests.{le-leb, lt-leb, eq-eqb, ne_eqb, leb-true, eqb-false, not-true}
+use lib.Dec.{eqb}
+use lib.Pointwise.{pointwise}
+use lib.ListN.{length, take, drop, get_or, drop_of_length-le}
+use lib.Seq.{drop-cons}
+use borrow.Author.Tests.{le-leb, lt-leb, eq-eqb, ne_eqb, eqb-true}
 use Rattle.words.proofs.Either.{both}
-use Rattle.cases.specs.Line.{Left, words, lost, Value, value, none, Got, got, after, next, first_of}
-use Rattle.cases.specs.Place.{left_at, word_ends, one_letter, one_digit}
-use Rattle.cases.specs.Number.{accepts, digits, natural, minus, negative, number_of, negative_of, signed_of, letters}
-use Rattle.cases.proofs.Reading.{letter, nothing, alike, refused, short, empty, barred, end-within, word_end, no_end, first_found, first_missed}
+use Rattle.std.specs.Prelude.{Option, Some, None}
+use Rattle.std.specs.Borrow.{Bor}
+use Rattle.std.specs.Char.{IsDigitOf, NotDecimalDigitIn}
+use Rattle.cases.specs.Line.{Left, words, lost, got, after, next, or_else, first_of}
+use Rattle.cases.specs.Number.{accepts, digits, natural, minus, negative, number_of, negative_of, signed_of, numeric, behind, named_of, letters}
+use Rattle.cases.specs.Place.{words_left, left_of}
+use Rattle.cases.specs.declared.ops.Kind.{Kind}
+use Rattle.cases.specs.declared.ops.Kind.TheVariants.{Int, Switch, Channel, Seed, Unsigned, File, Rule, Row}
 
--- What the code takes a byte for: a digit, or more than 9.
-accepted_by : (most v b : ℕ) → b < 256 → Dec (48 ≤ b) → Dec (b ≤ 57)
-    → (leb ((b + 208) % 256) 9 && leb (v * 10 + (b + 208) % 256) most) ≡ accepts most v b
-unfolding accepts
-accepted_by most v b k (yes l) (yes u) =
-    let m : (b + 208) % 256 ≡ b - 48 = omega arith in
-    let n : b - 48 ≤ 9 = omega arith in
-    rw (m, le-leb (b - 48) 9 n, le-leb 48 b l, le-leb b 57 u) refl
-accepted_by most v b k (yes l) (no u) =
-    let h : 57 < b = lt_of_not-le u in
-    let o : 9 < (b + 208) % 256 = omega arith in
-    rw (lt-leb ((b + 208) % 256) 9 o, le-leb 48 b l, lt-leb b 57 h) refl
-accepted_by most v b k (no n) u =
-    let h : b < 48 = lt_of_not-le n in
-    let o : 9 < (b + 208) % 256 = omega arith in
-    rw (lt-leb ((b + 208) % 256) 9 o, lt-leb 48 b h) refl
-
-pub accepted : (most v b : ℕ) → b < 256 → (leb ((b + 208) % 256) 9 && leb (v * 10 + (b + 208) % 256) most) ≡ accepts most v b
-accepted most v b k = accepted_by most v b k (dec_le 48 b) (dec_le b 57)
-
--- Past a first letter a number is its digits.
-pub begun : (most : ℕ) (line : List ℕ) (i : ℕ) → i < length line → (get_or line i 0 ≡ 32 → ⊥) → next 0 (natural most) (left_at line i) ≡ next 0 (digits most 0) (left_at line i)
+pub begun : (most : ℕ) (w : List ℕ) → (length w ≡ 0 → ⊥) → natural most w ≡ digits most 0 w
 unfolding natural
-begun most line i h s = letter 0 (natural most) line i h s ∙ sym (letter 0 (digits most 0) line i h s)
+begun most [] n = absurd (n refl)
+begun most (b ∷ w) n = refl
 
--- A digit takes the value on, and what is none ends the number.
-module _ (most v : ℕ) (line : List ℕ) (i : ℕ) where
-  digit_by : accepts most v (get_or line i 0) ≡ true → Dec (48 ≤ get_or line i 0) → Dec (get_or line i 0 ≤ 57)
-      → (48 ≤ get_or line i 0) × (get_or line i 0 ≤ 57) × (v * 10 + (get_or line i 0 - 48) ≤ most)
+pub empty_word : (most : ℕ) (w : List ℕ) → length w ≡ 0 → None ≡ natural most w
+unfolding natural
+empty_word most [] z = refl
+empty_word most (b ∷ w) z = absurd (omega arith)
+
+-- One digit more, or a byte that is none.
+module _ (most v b d : ℕ) where
+  taken_on : IsDigitOf b d → d < 10 → v * 10 + d ≤ most → (accepts most v b ≡ true) × (b - 48 ≡ d)
   unfolding accepts
-  digit_by t (yes l) (yes u) =
-      (l, u, leb-true (v * 10 + (get_or line i 0 - 48)) most (rw (le-leb 48 (get_or line i 0) l, le-leb (get_or line i 0) 57 u) at t))
-  digit_by t (yes l) (no u) =
-      absurd (subst T (sym (rw (le-leb 48 (get_or line i 0) l, lt-leb (get_or line i 0) 57 (lt_of_not-le u)) at t)) tt)
-  digit_by t (no n) u = absurd (subst T (sym (rw (lt-leb 48 (get_or line i 0) (lt_of_not-le n)) at t)) tt)
+  taken_on h k l =
+      let low : 48 ≤ b = omega (arith, h) in
+      let high : b ≤ 57 = omega (arith, h) in
+      let e : b - 48 ≡ d = omega (arith, h) in
+      (rw (le-leb 48 b low, le-leb b 57 high, e, le-leb (v * 10 + d) most l) refl, e)
 
-  taken_by : one_digit line i most v ≡ true → Dec (length line ≤ i) → (i < length line) × (accepts most v (get_or line i 0) ≡ true)
-  unfolding one_digit
-  taken_by t (yes l) = absurd (subst T (sym (rw (le-leb (length line) i l) at t)) tt)
-  taken_by t (no n) = let l : i < length line = lt_of_not-le n in (l, rw (lt-leb (length line) i l) at t)
+  too_large : IsDigitOf b d → d < 10 → most < v * 10 + d → accepts most v b ≡ false
+  unfolding accepts
+  too_large h k l =
+      let low : 48 ≤ b = omega (arith, h) in
+      let high : b ≤ 57 = omega (arith, h) in
+      let e : b - 48 ≡ d = omega (arith, h) in
+      rw (le-leb 48 b low, le-leb b 57 high, e, lt-leb (v * 10 + d) most l) refl
 
-  module _ (t : one_digit line i most v ≡ true) where
-    pub digit_within : i < length line
-    digit_within = (taken_by t (dec_le (length line) i)).0
+none_by : (most v b : ℕ) → NotDecimalDigitIn 10 b → Dec (48 ≤ b) → Dec (b ≤ 57) → accepts most v b ≡ false
+unfolding accepts
+none_by most v b h (yes l) (yes u) = let o : 58 ≤ b = h l u in absurd (omega arith)
+none_by most v b h (yes l) (no n) = rw (le-leb 48 b l, lt-leb b 57 (lt_of_not-le n))
+none_by most v b h (no n) u = rw (lt-leb 48 b (lt_of_not-le n))
 
-    pub is_digit : (48 ≤ get_or line i 0) × (get_or line i 0 ≤ 57) × (v * 10 + (get_or line i 0 - 48) ≤ most)
-    is_digit = digit_by (taken_by t (dec_le (length line) i)).1 (dec_le 48 (get_or line i 0)) (dec_le (get_or line i 0) 57)
+module _ (most v : ℕ) (w : List ℕ) (i b : ℕ) (inside : i < length w) (is : b ≡ get_or w i 0) where
+  here : drop i w ≡ b ∷ drop (i + 1) w
+  here = rw (add-one i, is) (drop-cons w i 0 inside)
 
-    no_space : get_or line i 0 ≡ 32 → ⊥
-    no_space e = omega (arith, is_digit.0)
+  pub digit_more : (d : ℕ) → IsDigitOf b d → d < 10 → v * 10 + d ≤ most → digits most v (drop i w) ≡ digits most (v * 10 + d) (drop (i + 1) w)
+  unfolding digits
+  digit_more d h k l = let t = taken_on most v b d h k l in rw (here, t.0, t.1)
 
-    one_digit_lem : next 0 (digits most v) (left_at line i) ≡ next 0 (digits most (v * 10 + (get_or line i 0 - 48))) (left_at line (i + 1))
-    unfolding digits
-    one_digit_lem =
-        letter 0 (digits most v) line i digit_within no_space ∙
-        alike 0 (λ (w : List ℕ). digits most v (get_or line i 0 ∷ w)) (digits most (v * 10 + (get_or line i 0 - 48)))
-        (λ w. rw (taken_by t (dec_le (length line) i)).1) (left_at line (i + 1))
+  pub digit_beyond : (d : ℕ) → IsDigitOf b d → d < 10 → most < v * 10 + d → digits most v (drop i w) ≡ None
+  unfolding digits
+  digit_beyond d h k l = rw (here, too_large most v b d h k l)
 
-  no_digit : i < length line → (get_or line i 0 ≡ 32 → ⊥) → one_digit line i most v ≡ false → next 0 (digits most v) (left_at line i) ≡ got 0 lost
-  unfolding digits one_digit
-  no_digit h s t =
-      let f : accepts most v (get_or line i 0) ≡ false = rw (lt-leb (length line) i h) at t in
-      letter 0 (digits most v) line i h s ∙
-      refused 0 (λ (w : List ℕ). digits most v (get_or line i 0 ∷ w)) (λ w. rw f) (left_at line (i + 1))
+  pub no_digit : NotDecimalDigitIn 10 b → digits most v (drop i w) ≡ None
+  unfolding digits
+  no_digit h = rw (here, none_by most v b h (dec_le 48 b) (dec_le b 57))
 
-  stopped_at : one_digit line i most v ≡ false → (length line < i) ⊎ ((i < length line) × (get_or line i 0 ≡ 32 → ⊥))
-      → next 0 (digits most v) (left_at line i) ≡ got 0 lost
-  stopped_at t (inl l) = nothing 0 (digits most v) line i l
-  stopped_at t (inr o) = no_digit o.0 o.1 t
-
--- No digit where a number is to begin.
-none_by : (most : ℕ) (line : List ℕ) (i : ℕ) → one_digit line i most 0 ≡ false → Dec (length line ≤ i) → Dec (get_or line i 0 ≡ 32)
-    → next 0 (natural most) (left_at line i) ≡ got 0 lost
-unfolding natural
-none_by most line i t (yes l) e = short 0 (natural most) line i refl l
-none_by most line i t (no n) (yes e) = empty 0 (natural most) line i refl (lt_of_not-le n) e
-none_by most line i t (no n) (no s) =
-    let h : i < length line = lt_of_not-le n in
-    begun most line i h s ∙ no_digit most 0 line i h s t
-
--- A number from its first digit on: past it, what is left to read, after the value so far, is what was there to read.
-module _ (most at v i : ℕ) (line : List ℕ) (l : at ≤ i) (z : i ≡ at → v ≡ 0)
-    (e : at < i → next 0 (natural most) (left_at line at) ≡ next 0 (digits most v) (left_at line i)) where
-  step_by : (t : one_digit line i most v ≡ true) → Dec (i ≡ at) → next 0 (natural most) (left_at line at) ≡ next 0 (digits most v) (left_at line i)
-  step_by t (no n) = e (omega (arith, l, n))
-  step_by t (yes p) =
-      ap (λ (k : ℕ). next 0 (natural most) (left_at line k)) (sym p) ∙
-      begun most line i (digit_within most v line i t) (no_space most v line i t) ∙
-      ap (λ (k : ℕ). next 0 (digits most k) (left_at line i)) (sym (z p))
-
-  pub number_step : (b : ℕ) → b ≡ get_or line i 0 → one_digit line i most v ≡ true
-      → next 0 (natural most) (left_at line at) ≡ next 0 (digits most (v * 10 + (b - 48))) (left_at line (i + 1))
-  number_step b f t = step_by t (ℕ_discrete i at) ∙ rw f (one_digit_lem most v line i t)
-
-  module _ (o : Bool) (w : o ≡ word_ends line i) where
-    pub number-end : (not (eqb i at) && o) ≡ true → (i ≤ length line) × (next 0 (natural most) (left_at line at) ≡ after 0 (digits most v []) (left_at line (i + 1)))
-    number-end t =
-        let q = both (not (eqb i at)) o t in
-        let n : i ≡ at → ⊥ = eqb-false i at (not-true (eqb i at) q.0) in
-        (end-within line i (sym w ∙ q.1), e (omega (arith, l, n)) ∙ word_end line i 0 (digits most v) (sym w ∙ q.1))
-
-    lost_by : one_digit line i most v ≡ false → (not (eqb i at) && o) ≡ false → Dec (i ≡ at) → next 0 (natural most) (left_at line at) ≡ got 0 lost
-    lost_by t u (yes p) =
-        let s : one_digit line at most 0 ≡ false = rw (p, z p) at t in
-        none_by most line at s (dec_le (length line) at) (ℕ_discrete (get_or line at 0) 32)
-    lost_by t u (no n) =
-        let s : o ≡ false = rw (ne_eqb i at n) at u in
-        e (omega (arith, l, n)) ∙ stopped_at most v line i t (no_end line i (sym w ∙ s))
-
-    pub number-lost : one_digit line i most v ≡ false → (not (eqb i at) && o) ≡ false → next 0 (natural most) (left_at line at) ≡ got 0 lost
-    number-lost t u = lost_by t u (ℕ_discrete i at)
-
--- A letter takes a name on, and a 0, or what is too long, ends it.
-module _ (v : ℕ) (line : List ℕ) (i : ℕ) where
-  letter_by : Dec (length line ≤ i) → one_letter line i v ≡ true
-      → (i < length line) × (get_or line i 0 ≡ 32 → ⊥) × (get_or line i 0 ≡ 0 → ⊥) × (v ≤ 281474976710655)
-  unfolding one_letter
-  letter_by (yes l) t = absurd (subst T (sym (rw (le-leb (length line) i l) at t)) tt)
-  letter_by (no n) t =
-      let l : i < length line = lt_of_not-le n in
-      let o = both (not (eqb (get_or line i 0) 32) && not (eqb (get_or line i 0) 0)) (leb v 281474976710655) (rw (lt-leb (length line) i l) at t) in
-      let p = both (not (eqb (get_or line i 0) 32)) (not (eqb (get_or line i 0) 0)) o.0 in (
-        l,
-        eqb-false (get_or line i 0) 32 (not-true (eqb (get_or line i 0) 32) p.0),
-        eqb-false (get_or line i 0) 0 (not-true (eqb (get_or line i 0) 0) p.1),
-        leb-true v 281474976710655 o.1,
-      )
-
-  pub is_letter : one_letter line i v ≡ true
-      → (i < length line) × (get_or line i 0 ≡ 32 → ⊥) × (get_or line i 0 ≡ 0 → ⊥) × (v ≤ 281474976710655)
-  is_letter t = letter_by (dec_le (length line) i) t
-
-  pub one_letter_lem : (b : ℕ) → b ≡ get_or line i 0 → one_letter line i v ≡ true
-      → next 0 (letters v) (left_at line i) ≡ next 0 (letters (v * 256 + b)) (left_at line (i + 1))
+  pub letter_more : (b ≡ 0 → ⊥) → v ≤ 281474976710655 → letters v (drop i w) ≡ letters (v * 256 + b) (drop (i + 1) w)
   unfolding letters
-  one_letter_lem b e t =
-      let o = is_letter t in
-      rw e
-      (letter 0 (letters v) line i o.0 o.1 ∙
-      alike 0 (λ (w : List ℕ). letters v (get_or line i 0 ∷ w)) (letters (v * 256 + get_or line i 0))
-      (λ w. rw (ne_eqb (get_or line i 0) 0 o.2, le-leb v 281474976710655 o.3)) (left_at line (i + 1)))
+  letter_more n l = rw (here, ne_eqb b 0 n, le-leb v 281474976710655 l)
 
-  module _ (h : i < length line) (s : get_or line i 0 ≡ 32 → ⊥) where
-    onto : next 0 (letters v) (left_at line i) ≡ next 0 (λ (w : List ℕ). letters v (get_or line i 0 ∷ w)) (left_at line (i + 1))
-    onto = letter 0 (letters v) line i h s
+  pub no_letter : b ≡ 0 → letters v (drop i w) ≡ None
+  unfolding letters
+  no_letter z = rw (here, eq-eqb b 0 z)
 
-    ended_by : one_letter line i v ≡ false → Dec (get_or line i 0 ≡ 0) → Dec (v ≤ 281474976710655)
-        → next 0 (letters v) (left_at line i) ≡ got 0 lost
-    unfolding letters one_letter
-    ended_by t (yes z) m =
-        onto ∙ refused 0 (λ (w : List ℕ). letters v (get_or line i 0 ∷ w)) (λ w. rw (eq-eqb (get_or line i 0) 0 z)) (left_at line (i + 1))
-    ended_by t (no n) (no m) =
-        let l : 281474976710655 < v = lt_of_not-le m in
-        onto ∙
-        refused 0 (λ (w : List ℕ). letters v (get_or line i 0 ∷ w))
-        (λ w. rw (ne_eqb (get_or line i 0) 0 n, lt-leb v 281474976710655 l)) (left_at line (i + 1))
-    ended_by t (no n) (yes m) =
-        absurd
-        (subst T
-        (rw (lt-leb (length line) i h, ne_eqb (get_or line i 0) 32 s, ne_eqb (get_or line i 0) 0 n, le-leb v 281474976710655 m) at t)
-        tt)
+  pub too_long : (b ≡ 0 → ⊥) → 281474976710655 < v → letters v (drop i w) ≡ None
+  unfolding letters
+  too_long n l = rw (here, ne_eqb b 0 n, lt-leb v 281474976710655 l)
 
-  stopped_by : one_letter line i v ≡ false → (length line < i) ⊎ ((i < length line) × (get_or line i 0 ≡ 32 → ⊥))
-      → next 0 (letters v) (left_at line i) ≡ got 0 lost
-  stopped_by t (inl l) = nothing 0 (letters v) line i l
-  stopped_by t (inr o) = ended_by o.0 o.1 t (ℕ_discrete (get_or line i 0) 0) (dec_le v 281474976710655)
+pub digits_end : (most v : ℕ) (w : List ℕ) (i : ℕ) → length w ≤ i → digits most v (drop i w) ≡ Some v
+unfolding digits
+digits_end most v w i h = rw (drop_of_length-le w h)
 
-  pub name_stopped : one_letter line i v ≡ false → word_ends line i ≡ false → next 0 (letters v) (left_at line i) ≡ got 0 lost
-  name_stopped t e = stopped_by t (no_end line i e)
+pub letters_end : (v : ℕ) (w : List ℕ) (i : ℕ) → length w ≤ i → letters v (drop i w) ≡ Some v
+unfolding letters
+letters_end v w i h = rw (drop_of_length-le w h)
 
--- A minus turns what follows it.
-abbrev bits : ℕ → ℕ
-bits n = (4294967296 - n) % 4294967296
+both_tests : (s t : Bool) (v : Option ℕ) → cond s (cond t v None) None ≡ cond (s && t) v None
+both_tests true t v = refl
+both_tests false t v = refl
 
-turned : (v : Value ℕ) (l : Left) → after 0 (minus v) l ≡ got (bits (after 0 v l).value) (after 0 v l).left
-unfolding after minus
-turned (value n) l = refl
-turned none l = refl
+-- A word that begins with a name, and one that doesn't.
+behind_name : (name w : List ℕ) → behind name w ≡ cond (pointwise eqb (take (length name) w) name) (natural 4294967295 (drop (length name) w)) None
+unfolding behind
+behind_name [] w = refl
+behind_name (k ∷ ks) [] = refl
+behind_name (k ∷ ks) (b ∷ w) = rw (behind_name ks w) (both_tests (eqb b k) (pointwise eqb (take (length ks) w) ks) (natural 4294967295 (drop (length ks) w)))
 
-negated : (f : List ℕ → Value ℕ) (l : Left) → next 0 (λ (w : List ℕ). minus (f w)) l ≡ got (bits (next 0 f l).value) (next 0 f l).left
-unfolding next
-negated f (words []) = refl
-negated f (words (w ∷ ws)) = turned (f w) (words ws)
-negated f lost = refl
+pub with_name : (name w : List ℕ) → pointwise eqb (take (length name) w) name ≡ true → behind name w ≡ natural 4294967295 (drop (length name) w)
+with_name name w t = behind_name name w ∙ rw t
 
-minused : (line : List ℕ) (i : ℕ) → i < length line → get_or line i 0 ≡ 45
-    → next 0 negative (left_at line i) ≡ next 0 (λ (w : List ℕ). minus (natural 2147483648 w)) (left_at line (i + 1))
-unfolding negative
-minused line i h e =
-    letter 0 negative line i h (λ (p : get_or line i 0 ≡ 32). eqb-false 45 32 refl (sym e ∙ p)) ∙
-    alike 0 (λ (w : List ℕ). negative (get_or line i 0 ∷ w)) (λ (w : List ℕ). minus (natural 2147483648 w))
-    (λ w. rw (eq-eqb (get_or line i 0) 45 e)) (left_at line (i + 1))
+pub without_name : (name w : List ℕ) → pointwise eqb (take (length name) w) name ≡ false → behind name w ≡ None
+without_name name w t = behind_name name w ∙ rw t
 
--- A number, or a minus and a number, or neither.
-module _ (line : List ℕ) (i v j : ℕ) (e : got v (left_at line j) ≡ number_of 2147483647 (left_at line i)) where
-  pub plain-number : j < length line + 2 → got v (left_at line j) ≡ signed_of (left_at line i)
-  unfolding signed_of
-  plain-number h = sym (ap (λ (g : Got ℕ). first_of g (negative_of (left_at line i))) (sym e) ∙ first_found v line j _ h)
+-- The same of a name of one byte.
+pub after_byte : (k : ℕ) (w : List ℕ) → pointwise eqb (take 1 w) (k ∷ []) ≡ true → w ≡ k ∷ drop 1 w
+after_byte k [] t = absurd (true≢false (sym t))
+after_byte k (b ∷ w) t = let e : b ≡ k = eqb-true b k (both (eqb b k) true t).0 in rw e
 
-  only_negative : length line + 2 ≤ j → negative_of (left_at line i) ≡ signed_of (left_at line i)
-  unfolding signed_of
-  only_negative h = sym (ap (λ (g : Got ℕ). first_of g (negative_of (left_at line i))) (sym e) ∙ first_missed v line j _ h)
+pub other_byte : (k b : ℕ) (w : List ℕ) → pointwise eqb (take 1 (b ∷ w)) (k ∷ []) ≡ false → eqb b k ≡ false
+other_byte k b w t = by (eqb b k) t
+  where
+    by : (q : Bool) → (q && true) ≡ false → q ≡ false
+    by true e = e
+    by false e = refl
 
-  pub no_more : length line + 2 ≤ j → length line ≤ i → signed_of (left_at line i) ≡ got 0 lost
-  unfolding negative_of negative
-  no_more h m = sym (only_negative h) ∙ short 0 negative line i refl m
+-- A number, or a minus and a number.
+module _ (w : List ℕ) (ws : List (List ℕ)) where
+  module _ (e : w ≡ 45 ∷ drop 1 w) where
+    minus_is : signed_of (words (w ∷ ws)) ≡ after 0 (minus (natural 2147483648 (drop 1 w))) (words ws)
+    unfolding signed_of number_of negative_of next natural digits accepts negative first_of or_else after
+    minus_is = ap (λ (x : List ℕ). signed_of (words (x ∷ ws))) e
 
-  pub no_minus : length line + 2 ≤ j → i < length line → (get_or line i 0 ≡ 45 → ⊥) → signed_of (left_at line i) ≡ got 0 lost
-  unfolding negative_of negative
-  no_minus h m n = sym (only_negative h) ∙ barred 0 negative line i refl (λ w. rw (ne_eqb (get_or line i 0) 45 n)) m
+    pub no_negative : None ≡ natural 2147483648 (drop 1 w) → after 0 None (words ws) ≡ signed_of (words (w ∷ ws))
+    unfolding minus after
+    no_negative n = sym (minus_is ∙ rw (← n))
 
-  pub a-minus : length line + 2 ≤ j → i < length line → get_or line i 0 ≡ 45 → (u k : ℕ)
-      → got u (left_at line k) ≡ number_of 2147483648 (left_at line (i + 1)) → got (bits u) (left_at line k) ≡ signed_of (left_at line i)
-  unfolding negative_of number_of
-  a-minus h m n u k f =
-      ap (λ (g : Got ℕ). got (bits g.value) g.left) f ∙
-      sym (minused line i m n ∙ negated (natural 2147483648) (left_at line (i + 1))) ∙ only_negative h
+    pub a_negative : (n r : ℕ) → Some n ≡ natural 2147483648 (drop 1 w) → n < 4294967296 → r < 4294967296 → (r + n) % 4294967296 ≡ 0
+        → after 0 (Some r) (words ws) ≡ signed_of (words (w ∷ ws))
+    unfolding minus after
+    a_negative n r h k l z =
+        let bits : (4294967296 - n) % 4294967296 ≡ r = omega arith in
+        sym (minus_is ∙ rw (← h, bits))
+
+  first-or : (v : Option ℕ) → first_of (after 0 v (words ws)) (got 0 lost) ≡ after 0 v (words ws)
+  unfolding first_of or_else after
+  first-or None = refl
+  first-or (Some n) = refl
+
+pub plain_number : (w : List ℕ) (ws : List (List ℕ)) → pointwise eqb (take 1 w) (45 ∷ []) ≡ false
+    → after 0 (natural 2147483647 w) (words ws) ≡ signed_of (words (w ∷ ws))
+unfolding signed_of number_of negative_of next negative after
+plain_number [] ws t = sym (first-or [] ws (natural 2147483647 []))
+plain_number (b ∷ w) ws t = sym (rw (other_byte 45 b w t) (first-or [] ws (natural 2147483647 (b ∷ w))))
+
+-- Nothing is left of a line, for each kind.
+pub numeric_lost : (k : Kind) → (numeric k (words [])).left ≡ lost
+unfolding numeric number_of signed_of negative_of next first_of or_else
+numeric_lost Int = refl
+numeric_lost Switch = refl
+numeric_lost Channel = refl
+numeric_lost Seed = refl
+numeric_lost Unsigned = refl
+numeric_lost File = refl
+numeric_lost Rule = refl
+numeric_lost (Row k) = refl
+
+pub other_kind : (k : Kind) (l : Left) → (k ≡ Int → ⊥) → (k ≡ Switch → ⊥) → (k ≡ Channel → ⊥) → number_of 4294967295 l ≡ numeric k l
+unfolding numeric
+other_kind Int l a b c = absurd (a refl)
+other_kind Switch l a b c = absurd (b refl)
+other_kind Channel l a b c = absurd (c refl)
+other_kind Seed l a b c = refl
+other_kind Unsigned l a b c = refl
+other_kind File l a b c = refl
+other_kind Rule l a b c = refl
+other_kind (Row k) l a b c = refl
+
+-- A word of a name is read, and any other stays.
+module _ (name : List ℕ) (absent : ℕ) (l : Option (Bor (List ℕ))) where
+  pub no_named : words_left l ≡ [] → named_of name absent (left_of l) ≡ got absent (left_of l)
+  unfolding named_of next first_of or_else
+  no_named e = rw e
+
+  module _ (l' : Option (Bor (List ℕ))) (w : List ℕ) (e : words_left l ≡ w ∷ words_left l') where
+    pub is_named : (n : ℕ) → Some n ≡ behind name w → named_of name absent (left_of l) ≡ got n (left_of l')
+    unfolding named_of next after first_of or_else
+    is_named n h = rw (e, ← h)
+
+    pub is_other : None ≡ behind name w → named_of name absent (left_of l) ≡ got absent (left_of l)
+    unfolding named_of next after first_of or_else
+    is_other h = rw (e, ← h)

@@ -1,236 +1,215 @@
--- Hex digits are read two by two: the bytes so far stand before those to come.
-use mathlib.Core.Bool.{true, false}
-use mathlib.Core.Logic.{◌⊎◌, inl, inr}
-use mathlib.Core.List.{List, [], ◌∷◌, ◌++◌, append_assoc, append-nil}
-use mathlib.Core.Path.{◌≡◌, refl, sym, ◌∙◌, ap, subst}
-use Prim.Native.Nat.{ℕ, zero, suc, ◌+◌, ◌*◌, ◌<◌, ◌≤◌}
-use native.Mathlib.Numerals.{add-one}
-use native.Mathlib.Decide.{dec_le}
-use native.Mathlib.Nat.{lt_of_not-le}
+-- Seeds and files word by word, hex digits two by two, and the bytes they give.
+use mathlib.Core.Bool.{Bool, true, false, ◌&&◌, cond, true≢false}
+use mathlib.Core.List.{List, [], ◌∷◌}
+use mathlib.Core.Path.{◌≡◌, refl, sym, ◌∙◌, ap}
+use Prim.Native.Nat.{ℕ, suc, ◌+◌, ◌*◌, ◌/◌, ◌%◌, ◌<◌, ◌≤◌}
+use native.Mathlib.Decide.{dec_le, ℕ_discrete}
 use native.Mathlib.Omega.{arith}
-use lib.Dec.{T, ltb}
-use lib.ListN.{length, get_or, replicate}
-use borrow.Author.Tests.{le-leb, lt-leb, lt-ltb, le-ltb, eq-eqb, ne_eqb, ltb-true, eqb-false}
+use lib.Dec.{eqb, ltb, leb}
+use native.Mathlib.Nat.{lt_of_not-le}
+use lib.ListN.{length, take, drop, get_or, length-drop}
+use lib.Seq.{drop-cons}
+use lib.Pointwise.{pointwise}
+use borrow.Author.Tests.{le-leb, lt-leb, lt-ltb, le-ltb, eq-eqb, ne_eqb, eqb-true}
 use Rattle.words.proofs.Either.{both}
-use Rattle.cases.specs.Line.{Left, words, lost, Value, value, none, Got, got, after, next}
-use Rattle.cases.specs.Place.{left_at, word_ends, two_digits, pairs, Within, Fills}
-use Rattle.cases.specs.Seed.{Sown, zeros, counted, given, nibble, byte, before, hexes, given_by, given_hex, counted_by, sowing, seed_of, filled, file_of, turns}
-use Rattle.cases.specs.Number.{natural, number_of, name_of}
-use Rattle.cases.specs.declared.seed.Seed.{Seed}
-use Rattle.cases.specs.declared.seed.Seed.TheVariants.{Bytes}
-use Rattle.cases.proofs.Reading.{letter, nothing, alike, refused, barred, no_end, short, empty, matched}
+use Rattle.std.specs.Prelude.{Option, Some, None, SomeIff, unwrap_or}
+use Rattle.std.specs.List.{list_all}
+use Rattle.std.specs.Borrow.{Bor}
+use Rattle.std.specs.Char.{is_digit, digit_value}
+use Rattle.cases.specs.Line.{Left, lost, got, after, next}
+use Rattle.cases.specs.Number.{natural, letters, name_of}
+use Rattle.cases.specs.Seed.{Sown, zeros, given, nibble, byte, before, hexes, given_by, given_hex, counted_by, sowing, seed_of, filled, file_of, turns}
+use Rattle.cases.specs.Place.{words_left, left_of, pairs}
+use Rattle.cases.proofs.Numbers.{other_byte}
 
--- What is still to be read after the first bytes.
-abbrev pub rest : List ℕ → List ℕ → Value Sown
-rest p w = given_by (before p (hexes w))
-
-before-before : (p q : List ℕ) (v : Value (List ℕ)) → before p (before q v) ≡ before (p ++ q) v
-unfolding before
-before-before p q (value bs) = rw append_assoc
-before-before p q none = refl
-
-before-none : (v : Value (List ℕ)) → before [] v ≡ v
-unfolding before
-before-none (value bs) = refl
-before-none none = refl
-
--- 32 is no hex digit.
-no_space : (b : ℕ) → nibble b < 16 → b ≡ 32 → ⊥
+pub nibble_by : (b : ℕ) (o : Option ℕ) → SomeIff o (digit_value b < 16) (digit_value b) → unwrap_or o 0 ≡ nibble b % 16
 unfolding nibble
-no_space b h e = let l : 16 < 16 = rw e at h in omega arith
+nibble_by b None n = rw (le-ltb (digit_value b) 16 (let h = n in omega arith))
+nibble_by b (Some d) h = rw (lt-ltb (digit_value b) 16 h.0) (omega (arith, h.0, h.1))
 
-pub opened : (l : Left) → next (counted 0) given_hex l ≡ next (counted 0) (rest []) l
-unfolding given_hex
-opened l = alike (counted 0) given_hex (rest []) (λ w. ap given_by (sym (before-none (hexes w)))) l
+is_nibble : (b : ℕ) → ltb (nibble b) 16 ≡ is_digit b 16
+unfolding nibble
+is_nibble b = by (digit_value b) (is_digit b 16) refl
+  where
+    by : (d : ℕ) (t : Bool) → ltb d 16 ≡ t → ltb (cond t d 16) 16 ≡ t
+    by d true e = e
+    by d false e = refl
 
-pub closed : (p : List ℕ) (l : Left) → after (counted 0) (rest p []) l ≡ got (given p) l
-unfolding hexes before given_by after
-closed p l = rw append-nil
+abbrev pub all_digits : List ℕ → Bool
+all_digits w = list_all (λ b. is_digit b 16) w
 
-module _ (p line : List ℕ) (i : ℕ) (h : i < length line) (s : get_or line i 0 ≡ 32 → ⊥) where
-  into : next (counted 0) (rest p) (left_at line i) ≡ next (counted 0) (λ (w : List ℕ). rest p (get_or line i 0 ∷ w)) (left_at line (i + 1))
-  into = letter (counted 0) (rest p) line i h s
+two : (s t e d : Bool) (b : ℕ) (bs : List ℕ) → cond s (cond t (before (b ∷ []) (cond (e && d) (Some bs) None)) None) None ≡ cond (e && (s && (t && d))) (Some (b ∷ bs)) None
+unfolding before
+two true true true true b bs = refl
+two true true true false b bs = refl
+two true true false d b bs = refl
+two true false true d b bs = refl
+two true false false d b bs = refl
+two false t true d b bs = refl
+two false t false d b bs = refl
 
-  odd : length line ≤ i + 1 → next (counted 0) (rest p) (left_at line i) ≡ got (counted 0) lost
-  unfolding hexes before given_by
-  odd l = into ∙ short (counted 0) (λ (w : List ℕ). rest p (get_or line i 0 ∷ w)) line (i + 1) refl l
+pub hexes_is : (w : List ℕ) → hexes w ≡ cond (eqb (length w % 2) 0 && all_digits w) (Some (pairs w)) None
+unfolding hexes before pairs
+hexes_is [] = refl
+hexes_is (a ∷ []) = refl
+hexes_is (a ∷ b ∷ w) =
+    let even : suc (suc (length w)) % 2 ≡ length w % 2 = omega arith in
+    rw (even, is_nibble a, is_nibble b, hexes_is w) (two (is_digit a 16) (is_digit b 16) (eqb (length w % 2) 0) (all_digits w) (byte a b) (pairs w))
 
-  no_high : 16 ≤ nibble (get_or line i 0) → (w : List ℕ) → rest p (get_or line i 0 ∷ w) ≡ none
-  unfolding hexes before given_by
-  no_high g [] = refl
-  no_high g (b ∷ w) = rw (le-ltb (nibble (get_or line i 0)) 16 g)
-
-  high : 16 ≤ nibble (get_or line i 0) → next (counted 0) (rest p) (left_at line i) ≡ got (counted 0) lost
-  high g = into ∙ refused (counted 0) (λ (w : List ℕ). rest p (get_or line i 0 ∷ w)) (no_high g) (left_at line (i + 1))
-
-  low : nibble (get_or line i 0) < 16 → i + 1 < length line → 16 ≤ nibble (get_or line (i + 1) 0)
-      → next (counted 0) (rest p) (left_at line i) ≡ got (counted 0) lost
-  unfolding hexes before given_by
-  low a m b =
-      into ∙
-      barred (counted 0) (λ (w : List ℕ). rest p (get_or line i 0 ∷ w)) line (i + 1) refl
-      (λ w. rw (lt-ltb (nibble (get_or line i 0)) 16 a, le-ltb (nibble (get_or line (i + 1) 0)) 16 b)) m
-
-  two_nibbles : nibble (get_or line i 0) < 16 → nibble (get_or line (i + 1) 0) < 16 → (w : List ℕ)
-      → rest p (get_or line i 0 ∷ get_or line (i + 1) 0 ∷ w) ≡ rest (p ++ (byte (get_or line i 0) (get_or line (i + 1) 0) ∷ [])) w
-  unfolding hexes
-  two_nibbles a b w =
-      rw (lt-ltb (nibble (get_or line i 0)) 16 a, lt-ltb (nibble (get_or line (i + 1) 0)) 16 b)
-      (ap given_by (before-before p (byte (get_or line i 0) (get_or line (i + 1) 0) ∷ []) (hexes w)))
-
-  pair : nibble (get_or line i 0) < 16 → i + 1 < length line → nibble (get_or line (i + 1) 0) < 16
-      → next (counted 0) (rest p) (left_at line i)
-      ≡ next (counted 0) (rest (p ++ (byte (get_or line i 0) (get_or line (i + 1) 0) ∷ []))) (left_at line (i + 1 + 1))
-  pair a m b =
-      into ∙
-      letter (counted 0) (λ (w : List ℕ). rest p (get_or line i 0 ∷ w)) line (i + 1) m (no_space (get_or line (i + 1) 0) b) ∙
-      alike (counted 0) (λ (w : List ℕ). rest p (get_or line i 0 ∷ get_or line (i + 1) 0 ∷ w))
-      (rest (p ++ (byte (get_or line i 0) (get_or line (i + 1) 0) ∷ []))) (two_nibbles a b) (left_at line (i + 1 + 1))
-
-  unpaired_by : two_digits line i ≡ false → Dec (length line ≤ i + 1) → Dec (nibble (get_or line i 0) ≤ 15) → Dec (nibble (get_or line (i + 1) 0) ≤ 15)
-      → next (counted 0) (rest p) (left_at line i) ≡ got (counted 0) lost
-  unfolding two_digits
-  unpaired_by t (yes l) a b = odd l
-  unpaired_by t (no n) (no a) b = let l : 15 < nibble (get_or line i 0) = lt_of_not-le a in high (omega (arith, l))
-  unpaired_by t (no n) (yes a) (no b) =
-      let l : 15 < nibble (get_or line (i + 1) 0) = lt_of_not-le b in
-      low (omega (arith, a)) (lt_of_not-le n) (omega (arith, l))
-  unpaired_by t (no n) (yes a) (yes b) =
-      absurd
-      (subst T
-      (rw (lt-leb (length line) (i + 1) (lt_of_not-le n), lt-ltb (nibble (get_or line i 0)) 16 (omega (arith, a)), lt-ltb (nibble (get_or line (i + 1) 0)) 16 (omega (arith, b))) at t)
-      tt)
-
-stopped_by : (p line : List ℕ) (i : ℕ) → two_digits line i ≡ false → (length line < i) ⊎ ((i < length line) × (get_or line i 0 ≡ 32 → ⊥))
-    → next (counted 0) (rest p) (left_at line i) ≡ got (counted 0) lost
-stopped_by p line i t (inl l) = nothing (counted 0) (rest p) line i l
-stopped_by p line i t (inr o) =
-    unpaired_by p line i o.0 o.1 t (dec_le (length line) (i + 1)) (dec_le (nibble (get_or line i 0)) 15)
-    (dec_le (nibble (get_or line (i + 1) 0)) 15)
-
--- Where no pair stands and no word ends, there is no hex.
-pub hex_stopped : (p line : List ℕ) (i : ℕ) → two_digits line i ≡ false → word_ends line i ≡ false
-    → next (counted 0) (rest p) (left_at line i) ≡ got (counted 0) lost
-hex_stopped p line i t e = stopped_by p line i t (no_end line i e)
-
-two_by : (line : List ℕ) (i : ℕ) → Dec (length line ≤ i + 1) → two_digits line i ≡ true
-    → (i + 1 < length line) × (nibble (get_or line i 0) < 16) × (nibble (get_or line (i + 1) 0) < 16)
-unfolding two_digits
-two_by line i (yes l) t = absurd (subst T (sym (rw (le-leb (length line) (i + 1) l) at t)) tt)
-two_by line i (no n) t =
-    let l : i + 1 < length line = lt_of_not-le n in
-    let o = both (ltb (nibble (get_or line i 0)) 16) (ltb (nibble (get_or line (i + 1) 0)) 16) (rw (lt-leb (length line) (i + 1) l) at t) in
-    (l, ltb-true (nibble (get_or line i 0)) 16 o.0, ltb-true (nibble (get_or line (i + 1) 0)) 16 o.1)
-
-pub two_digits_lem : (line : List ℕ) (i : ℕ) → two_digits line i ≡ true
-    → (i + 1 < length line) × (nibble (get_or line i 0) < 16) × (nibble (get_or line (i + 1) 0) < 16)
-two_digits_lem line i t = two_by line i (dec_le (length line) (i + 1)) t
-
--- An x, and then hex.
-pub marked : (line : List ℕ) (i : ℕ) → i < length line → get_or line i 0 ≡ 120
-    → next (counted 0) sowing (left_at line i) ≡ next (counted 0) given_hex (left_at line (i + 1))
-unfolding sowing
-marked line i h e =
-    letter (counted 0) sowing line i h (λ (p : get_or line i 0 ≡ 32). eqb-false 120 32 refl (sym e ∙ p)) ∙
-    alike (counted 0) (λ (w : List ℕ). sowing (get_or line i 0 ∷ w)) given_hex (λ w. rw (eq-eqb (get_or line i 0) 120 e)) (left_at line (i + 1))
-
--- Or a number.
-counted-after : (v : Value ℕ) (l : Left) → after (counted 0) (counted_by v) l ≡ got (counted (after 0 v l).value) (after 0 v l).left
-unfolding after counted_by
-counted-after (value n) l = refl
-counted-after none l = refl
-
-counted_next : (f : List ℕ → Value ℕ) (l : Left)
-    → next (counted 0) (λ (w : List ℕ). counted_by (f w)) l ≡ got (counted (next 0 f l).value) (next 0 f l).left
-unfolding next
-counted_next f (words []) = refl
-counted_next f (words (w ∷ ws)) = counted-after (f w) (words ws)
-counted_next f lost = refl
-
-unmarked : (line : List ℕ) (i : ℕ) → i < length line → (get_or line i 0 ≡ 120 → ⊥)
-    → next (counted 0) sowing (left_at line i) ≡ next (counted 0) (λ (w : List ℕ). counted_by (natural 4294967295 w)) (left_at line i)
-unfolding sowing natural counted_by
-unmarked line i h e =
-    matched (counted 0) sowing (λ (w : List ℕ). counted_by (natural 4294967295 w)) line i refl
-    (λ w. rw (ne_eqb (get_or line i 0) 120 e)) h
-
--- The kinds of a seed in turn, and of a file.
-module _ (line : List ℕ) (i v j : ℕ) (e : got v (left_at line j) ≡ name_of (left_at line i)) where
-  pub is-zeros : v ≡ 122 → got zeros (left_at line j) ≡ seed_of (left_at line i)
-  unfolding seed_of
-  is-zeros z = sym (rw (← e, eq-eqb v 122 z))
-
-  no_zeros : (v ≡ 122 → ⊥) → seed_of (left_at line i) ≡ next (counted 0) sowing (left_at line i)
-  unfolding seed_of
-  no_zeros n = rw (← e, ne_eqb v 122 n)
-
-  pub no_seed : (v ≡ 122 → ⊥) → length line ≤ i → seed_of (left_at line i) ≡ got (counted 0) lost
-  unfolding sowing
-  no_seed n h = no_zeros n ∙ short (counted 0) sowing line i refl h
-
-  pub is-given : (v ≡ 122 → ⊥) → i < length line → get_or line i 0 ≡ 120 → next (counted 0) given_hex (left_at line (i + 1)) ≡ seed_of (left_at line i)
-  is-given n h x = sym (no_zeros n ∙ marked line i h x)
-
-  pub is-counted : (v ≡ 122 → ⊥) → i < length line → (get_or line i 0 ≡ 120 → ⊥) → (m k : ℕ) → got m (left_at line k) ≡ number_of 4294967295 (left_at line i)
-      → got (counted m) (left_at line k) ≡ seed_of (left_at line i)
-  unfolding number_of
-  is-counted n h x m k f =
-      ap (λ (g : Got ℕ). got (counted g.value) g.left) f ∙
-      sym (no_zeros n ∙ unmarked line i h x ∙ counted_next (natural 4294967295) (left_at line i))
-
-  pub no_file : v ≡ 45 → got (given []) (left_at line j) ≡ file_of (left_at line i)
-  unfolding file_of
-  no_file z = sym (rw (← e, eq-eqb v 45 z))
-
-  pub a-file : (v ≡ 45 → ⊥) → next (counted 0) filled (left_at line i) ≡ file_of (left_at line i)
-  unfolding file_of
-  a-file n = sym (rw (← e, ne_eqb v 45 n))
-
-pub pairs-more : (line : List ℕ) (from n i : ℕ) → i ≡ from + 2 * n
-    → pairs line from (n + 1) ≡ pairs line from n ++ (byte (get_or line i 0) (get_or line (i + 1) 0) ∷ [])
+pub length_pairs : (w : List ℕ) → length (pairs w) ≡ length w / 2
 unfolding pairs
-pairs-more line from n i e = rw (add-one n, e)
+length_pairs [] = refl
+length_pairs (a ∷ []) = refl
+length_pairs (a ∷ b ∷ w) = let e = length_pairs w in omega arith
 
--- What is kept of hex digits.
-module _ {seed : Seed} {from n : ℕ} (e : seed ≡ Bytes from n) where
-  pub within : (line : List ℕ) → Within line seed → from + 2 * n ≤ length line
-  unfolding Within
-  within line w = rw e at w
+pub pair_more : (w : List ℕ) (i : ℕ) → 2 * i + 1 < length w
+    → pairs (drop (2 * i) w) ≡ byte (get_or w (2 * i) 0) (get_or w (2 * i + 1) 0) ∷ pairs (drop (2 * (i + 1)) w)
+unfolding pairs
+pair_more w i h =
+    let l : 2 * i < length w = omega arith in
+    let e : 2 * (i + 1) ≡ suc (suc (2 * i)) = omega arith in
+    let f : 2 * i + 1 ≡ suc (2 * i) = omega arith in
+    let k : suc (2 * i) < length w = omega arith in
+    rw (e, f, drop-cons w (2 * i) 0 l, drop-cons w (suc (2 * i)) 0 k)
 
-  pub fills : (k : ℕ) → Fills seed k → k ≡ n
-  unfolding Fills
-  fills k f = rw e at f
+pub odd_hex : (w : List ℕ) → (length w % 2 ≡ 0 → ⊥) → None ≡ given_hex w
+unfolding given_hex given_by
+odd_hex w n = rw (hexes_is w, ne_eqb (length w % 2) 0 n)
 
--- Two digits are a byte more.
-onward : (line : List ℕ) (at n i : ℕ) → i ≡ at + 2 * n → i < length line → (get_or line i 0 ≡ 32 → ⊥) → nibble (get_or line i 0) < 16
-    → i + 1 < length line → nibble (get_or line (i + 1) 0) < 16
-    → next (counted 0) (rest (pairs line at n)) (left_at line i) ≡ next (counted 0) (rest (pairs line at (n + 1))) (left_at line (i + 2))
-onward line at n i e h s a m b =
-    let j : i + 1 + 1 ≡ i + 2 = omega arith in
-    pair (pairs line at n) line i h s a m b ∙
-    ap (λ (p : List ℕ). next (counted 0) (rest p) (left_at line (i + 1 + 1))) (sym (pairs-more line at n i e)) ∙
-    ap (λ (k : ℕ). next (counted 0) (rest (pairs line at (n + 1))) (left_at line k)) j
+pub no_hex : (w : List ℕ) → all_digits w ≡ false → None ≡ given_hex w
+unfolding given_hex given_by
+no_hex w t = rw (hexes_is w, t) (by (eqb (length w % 2) 0))
+  where
+    by : (q : Bool) → None ≡ given_by (cond (q && false) (Some (pairs w)) None)
+    by true = refl
+    by false = refl
 
-pub paired : (line : List ℕ) (at n i : ℕ) → i ≡ at + 2 * n → two_digits line i ≡ true
-    → next (counted 0) (rest (pairs line at n)) (left_at line i) ≡ next (counted 0) (rest (pairs line at (n + 1))) (left_at line (i + 2))
-paired line at n i e t =
-    let o = two_digits_lem line i t in
-    onward line at n i e (omega (arith, o.0)) (no_space (get_or line i 0) o.1) o.1 o.0 o.2
+pub is_hex : (w : List ℕ) → length w % 2 ≡ 0 → all_digits w ≡ true → Some (given (pairs w)) ≡ given_hex w
+unfolding given_hex given_by
+is_hex w e t = rw (hexes_is w, t, eq-eqb (length w % 2) 0 e)
 
-pub no_letter : (line : List ℕ) (i : ℕ) → length line ≤ i → next (counted 0) filled (left_at line i) ≡ got (counted 0) lost
-unfolding filled
-no_letter line i h = short (counted 0) filled line i refl h
+pub no_pairs : (w : List ℕ) (i : ℕ) → length w / 2 ≤ i → pairs (drop (2 * i) w) ≡ []
+unfolding pairs
+no_pairs w i h = short (drop (2 * i) w) (omega (arith, length-drop (2 * i) w))
+  where
+    short : (w : List ℕ) → length w ≤ 1 → pairs w ≡ []
+    short [] l = refl
+    short (a ∷ []) l = refl
+    short (a ∷ b ∷ w) l = absurd (omega arith)
 
-pub no_word : (line : List ℕ) (i : ℕ) → i < length line → get_or line i 0 ≡ 32 → next (counted 0) filled (left_at line i) ≡ got (counted 0) lost
-unfolding filled
-no_word line i h e = empty (counted 0) filled line i refl h e
+-- A word that is one byte, and one that isn't.
+same : (k : ℕ) (w : List ℕ) → pointwise eqb w (k ∷ []) ≡ true → w ≡ k ∷ []
+same k [] t = absurd (true≢false (sym t))
+same k (b ∷ []) t = let e : b ≡ k = eqb-true b k (both (eqb b k) true t).0 in rw e
+same k (b ∷ a ∷ w) t = absurd (true≢false (sym (both (eqb b k) false t).1))
 
-pub some_word : (line : List ℕ) (i : ℕ) → i < length line → (get_or line i 0 ≡ 32 → ⊥) → next (counted 0) given_hex (left_at line i) ≡ next (counted 0) filled (left_at line i)
-unfolding filled
-some_word line i h s = letter (counted 0) given_hex line i h s ∙ sym (letter (counted 0) filled line i h s)
+module _ (k : ℕ) (w : List ℕ) {b : Bool} {q : List ℕ} (h : b ≡ pointwise eqb w q) (s : q ≡ k ∷ []) where
+  pub is_word : b ≡ true → w ≡ k ∷ []
+  is_word t = same k w (rw s at (sym h ∙ t))
 
--- Without a step, zero stays zero.
-pub still : (n : ℕ) → turns 0 n 0 ≡ replicate n 0
+  pub is_not : b ≡ false → w ≡ k ∷ [] → ⊥
+  is_not t e =
+      let r : pointwise eqb w (k ∷ []) ≡ false = rw s at (sym h ∙ t) in
+      let f : (eqb k k && true) ≡ false = rw e at r in
+      true≢false (rw (eq-eqb k k refl) at f)
+
+-- One turn of the number, as the library's products and sums cut it.
+pub turn : (n m t u : ℕ) → n ≡ suc m → u ≡ (t * 1664525 + 1013904223) % 4294967296 → turns 1013904223 n t ≡ u / 16777216 ∷ turns 1013904223 m u
 unfolding turns
-still zero = refl
-still (suc n) = ap (λ (t : List ℕ). 0 ∷ t) (still n)
+turn n m t u e h = rw (e, h)
+
+-- A name of more than one letter is at least 256, so that a name of one letter is one word.
+least_by : (v b : ℕ) (w : List ℕ) (n : ℕ) → ((u : ℕ) → letters u w ≡ Some n → u ≤ n) → letters v (b ∷ w) ≡ Some n → Dec (b ≡ 0) → Dec (v ≤ 281474976710655)
+    → (v * 256 + b ≤ n) × (b ≡ 0 → ⊥)
+unfolding letters
+least_by v b w n more e (yes z) m = let o : cond (eqb b 0) None (cond (leb v 281474976710655) (letters (v * 256 + b) w) None) ≡ None = rw (eq-eqb b 0 z) in cc
+least_by v b w n more e (no z) (yes l) = (more (v * 256 + b) (rw (ne_eqb b 0 z, le-leb v 281474976710655 l) at e), z)
+least_by v b w n more e (no z) (no l) =
+    let o : cond (eqb b 0) None (cond (leb v 281474976710655) (letters (v * 256 + b) w) None) ≡ None = rw (ne_eqb b 0 z, lt-leb v 281474976710655 (lt_of_not-le l)) in cc
+
+least : (w : List ℕ) (n v : ℕ) → letters v w ≡ Some n → v ≤ n
+unfolding letters
+least [] n v e = let p : v ≡ n = cc in omega arith
+least (b ∷ w) n v e = let p = least_by v b w n (least w n) e (ℕ_discrete b 0) (dec_le v 281474976710655) in omega (arith, p.0)
+
+one_letter : (k n : ℕ) (w : List ℕ) → 0 < k → k < 256 → letters 0 w ≡ Some n → n ≡ k → w ≡ k ∷ []
+unfolding letters
+one_letter k n [] h l e f = let p : 0 ≡ n = cc in absurd (omega arith)
+one_letter k n (b ∷ []) h l e f =
+    let q = least_by 0 b [] n (least [] n) e (ℕ_discrete b 0) (dec_le 0 281474976710655) in
+    let d : Some (0 * 256 + b) ≡ Some n = rw (ne_eqb b 0 q.1) at e in
+    let z : 0 * 256 + b ≡ n = cc in
+    let p : b ≡ n = omega arith in
+    rw (p, f)
+one_letter k n (b ∷ a ∷ w) h l e f =
+    let q = least_by 0 b (a ∷ w) n (least (a ∷ w) n) e (ℕ_discrete b 0) (dec_le 0 281474976710655) in
+    let r : letters (0 * 256 + b) (a ∷ w) ≡ Some n = rw (ne_eqb b 0 q.1) at e in
+    let z : 0 * 256 + b ≡ b = omega arith in
+    let t = least_by b a w n (least w n) (rw z at r) (ℕ_discrete a 0) (dec_le b 281474976710655) in
+    absurd (omega (arith, q.1, t.0))
+
+other_by : (k : ℕ) (w : List ℕ) (l : Left) (o : Option ℕ) → letters 0 w ≡ o → 0 < k → k < 256 → (w ≡ k ∷ [] → ⊥) → (after 0 o l).value ≡ k → ⊥
+unfolding after
+other_by k w l None e h m n f = omega arith
+other_by k w l (Some v) e h m n f = n (one_letter k v w h m e f)
+
+other_name : (k : ℕ) (w : List ℕ) (l : Left) → 0 < k → k < 256 → (w ≡ k ∷ [] → ⊥) → eqb (after 0 (letters 0 w) l).value k ≡ false
+other_name k w l h m n = ne_eqb (after 0 (letters 0 w) l).value k (other_by k w l (letters 0 w) refl h m n)
+
+pub with_x : (w : List ℕ) → w ≡ 120 ∷ drop 1 w → sowing w ≡ given_hex (drop 1 w)
+unfolding sowing
+with_x w e = ap sowing e
+
+pub without_x : (w : List ℕ) → pointwise eqb (take 1 w) (120 ∷ []) ≡ false → sowing w ≡ counted_by (natural 4294967295 w)
+unfolding sowing natural counted_by
+without_x [] t = refl
+without_x (b ∷ w) t = rw (other_byte 120 b w t)
+
+some_hex : (w : List ℕ) → (length w ≡ 0 → ⊥) → filled w ≡ given_hex w
+unfolding filled
+some_hex [] n = absurd (n refl)
+some_hex (b ∷ w) n = refl
+
+module _ (l : Option (Bor (List ℕ))) where
+  pub no_seed : words_left l ≡ [] → (seed_of (left_of l)).left ≡ lost
+  unfolding seed_of name_of next
+  no_seed e = rw e
+
+  pub no_file : words_left l ≡ [] → (file_of (left_of l)).left ≡ lost
+  unfolding file_of name_of next
+  no_file e = rw e
+
+  module _ (l' : Option (Bor (List ℕ))) (w : List ℕ) (e : words_left l ≡ w ∷ words_left l') where
+    pub is_zeros : w ≡ 122 ∷ [] → seed_of (left_of l) ≡ got zeros (left_of l')
+    unfolding seed_of name_of next letters after
+    is_zeros h = rw (e, h)
+
+    pub is_none : w ≡ 45 ∷ [] → file_of (left_of l) ≡ got (given []) (left_of l')
+    unfolding file_of name_of next letters after
+    is_none h = rw (e, h)
+
+    module _ (n : w ≡ 122 ∷ [] → ⊥) where
+      pub seed_lost : sowing w ≡ None → (seed_of (left_of l)).left ≡ lost
+      unfolding seed_of name_of next after
+      seed_lost h = rw (e, other_name 122 w (left_of l') (omega arith) (omega arith) n, h)
+
+      pub seed_read : (s : Sown) → sowing w ≡ Some s → seed_of (left_of l) ≡ got s (left_of l')
+      unfolding seed_of name_of next after
+      seed_read s h = rw (e, other_name 122 w (left_of l') (omega arith) (omega arith) n, h)
+
+    module _ (n : w ≡ 45 ∷ [] → ⊥) where
+      pub empty_file : length w ≡ 0 → (file_of (left_of l)).left ≡ lost
+      unfolding file_of name_of next after filled
+      empty_file z = let h : w ≡ [] = empty w z in rw (e, other_name 45 w (left_of l') (omega arith) (omega arith) n, h)
+        where
+          empty : (w : List ℕ) → length w ≡ 0 → w ≡ []
+          empty [] z = refl
+          empty (b ∷ w) z = absurd (omega arith)
+
+      pub file_lost : (length w ≡ 0 → ⊥) → None ≡ given_hex w → (file_of (left_of l)).left ≡ lost
+      unfolding file_of name_of next after
+      file_lost z h = rw (e, other_name 45 w (left_of l') (omega arith) (omega arith) n, some_hex w z, ← h)
+
+      pub file_read : (length w ≡ 0 → ⊥) → (s : Sown) → Some s ≡ given_hex w → file_of (left_of l) ≡ got s (left_of l')
+      unfolding file_of name_of next after
+      file_read z s h = rw (e, other_name 45 w (left_of l') (omega arith) (omega arith) n, some_hex w z, ← h)

@@ -3,7 +3,10 @@ use mathlib.Core.List.{List, [], ◌∷◌, ◌++◌, append_assoc}
 use mathlib.Core.Path.{◌≡◌, refl, sym, ◌∙◌, ap}
 use Prim.Native.Nat.{ℕ, zero, suc, ◌+◌, ◌-◌, ◌/◌, ◌%◌, ◌<◌, ◌≤◌}
 use native.Mathlib.Omega.{arith}
-use lib.ListN.{length, set, length-append, length-set}
+use native.Mathlib.Numerals.{add-one}
+use lib.Seq.{sets}
+use Rattle.std.proofs.lemmas.List.Edits.{sets-eq}
+use lib.ListN.{length, take, drop, set, length-append, length-set}
 use lib.Seq.{set_comm}
 use native.Mathlib.Nat.{zero-add}
 use native.Mathlib.Numerals.{one-add}
@@ -33,6 +36,15 @@ wrote t u d d' d'' at m n v w =
       same = w.same ∙ ap (λ (x : List ℕ). placed x m u) v.same ∙ placed-placed d at t u m v.to;
       to = w.to ∙ ap (λ (k : ℕ). k + length u) v.to ∙ (rw length-append (omega arith));
     }
+
+-- A text put over as many bytes.
+placed-sets : (d : List ℕ) (at : ℕ) (t : List ℕ) → placed d at t ≡ sets d at t
+unfolding placed
+placed-sets d at [] = refl
+placed-sets d at (b ∷ t) = rw (add-one at) (placed-sets (set d at b) (suc at) t)
+
+pub placed-is : (d : List ℕ) (at : ℕ) (t : List ℕ) → at + length t ≤ length d → placed d at t ≡ take at d ++ t ++ drop (at + length t) d
+placed-is d at t h = placed-sets d at t ∙ sets-eq t d at h
 
 -- A byte put before a text that ends where it stands is that text's last.
 pub byte-before : (d : List ℕ) (at : ℕ) (s : List ℕ) (v j : ℕ) → j ≡ at + length s → placed (set d j v) at s ≡ placed d at (s ++ (v ∷ []))
@@ -82,15 +94,6 @@ module _ (base k n : ℕ) where
   unfolding places
   place_end h = let z : 20 - k ≡ 0 = omega arith in rw z
 
--- The code holds labels as numbers, spelled as the line has them.
-status_label : spelled 256 8 0x207374617475733d ≡ 32 ∷ 115 ∷ 116 ∷ 97 ∷ 116 ∷ 117 ∷ 115 ∷ 61 ∷ []
-unfolding spelled glyph
-status_label = refl
-
-hash_label : spelled 256 6 0x20686173683d ≡ 32 ∷ 104 ∷ 97 ∷ 115 ∷ 104 ∷ 61 ∷ []
-unfolding spelled glyph
-hash_label = refl
-
 answered-is : (a : Answer) (d d' : List ℕ) (r : ℕ) → 144 ≤ length d → Wrote (line_of a) d 0 d' r → (r, d') ≡ answered a d
 unfolding answered
 answered-is a d d' r h w =
@@ -99,12 +102,12 @@ answered-is a d d' r h w =
 
 pub written : (a : Answer) (d d' : List ℕ) (r : ℕ) → 144 ≤ length d
     → Wrote
-    (((number 256 a.name ++ (spelled 256 8 0x207374617475733d ++ number 10 a.status)) ++ found_text a.found)
-    ++ ((spelled 256 6 0x20686173683d ++ spelled 16 16 a.hash) ++ (10 ∷ []))) d 0 d' r
+    (((number 256 a.name ++ ((32 ∷ 115 ∷ 116 ∷ 97 ∷ 116 ∷ 117 ∷ 115 ∷ 61 ∷ []) ++ number 10 a.status)) ++ found_text a.found)
+    ++ (((32 ∷ 104 ∷ 97 ∷ 115 ∷ 104 ∷ 61 ∷ []) ++ spelled 16 16 a.hash) ++ (10 ∷ []))) d 0 d' r
     → (r, d') ≡ answered a d
 unfolding line_of status_text
 written a d d' r h w =
-    answered-is a d d' r h (simp append_assoc (simp append_assoc at (rw (status_label, hash_label) at w)))
+    answered-is a d d' r h (simp append_assoc (simp append_assoc at w))
 
 -- No line is longer than 144 bytes.
 places-most : (base k n : ℕ) → places base k n ≤ k + 1

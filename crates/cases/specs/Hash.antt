@@ -1,14 +1,16 @@
 -- "the 64-bit FNV-1a of the final bytes"
-use Rattle.std.specs.Prelude.{List, [], ◌∷◌, ◌++◌, ℕ, ◌*◌, ◌/◌, ◌%◌}
+use Rattle.std.specs.Prelude.{List, [], ◌∷◌, ◌++◌, ℕ, ◌*◌, ◌/◌, ◌%◌, fold}
 use Rattle.std.specs.Int.Bits.{bit_xor}
 
 -- A byte is taken in by XOR, and the result times the prime is cut to 64 bits.
 unfoldable pub stirred : ℕ → ℕ
 stirred h = h * 1099511628211 % 18446744073709551616
 
-unfoldable pub hash_from : ℕ → List ℕ → ℕ
-hash_from h [] = h
-hash_from h (b ∷ s) = hash_from (stirred (bit_xor h b)) s
+abbrev pub taken_in : ℕ → ℕ → ℕ
+taken_in h b = stirred (bit_xor h b)
+
+abbrev pub hash_from : ℕ → List ℕ → ℕ
+hash_from = fold taken_in
 
 unfoldable pub hash_of : List ℕ → ℕ
 hash_of = hash_from 14695981039346656037

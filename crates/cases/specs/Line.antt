@@ -1,5 +1,5 @@
 -- The words of a line, and how they are read one after the other.
-use Rattle.std.specs.Prelude.{cond, List, [], ◌∷◌, ℕ, eqb}
+use Rattle.std.specs.Prelude.{cond, List, [], ◌∷◌, ℕ, eqb, Option, Some, None}
 
 -- "words apart by single spaces": up to the first space, and what follows it.
 unfoldable pub first_word : List ℕ → List ℕ
@@ -18,11 +18,6 @@ pub data Left : Type 0 where
 unfoldable pub words_of : List ℕ → Left
 words_of s = words (first_word s ∷ other_words s)
 
--- What a word stands for, if anything.
-pub data Value (A : Type 0) : Type 0 where
-  value : A → Value A
-  none : Value A
-
 -- What was read, and what is left after it.
 pub record Got (A : Type 0) : Type 0 where
   pub value : A
@@ -31,12 +26,12 @@ pub record Got (A : Type 0) : Type 0 where
 abbrev pub got : {A : Type 0} → A → Left → Got A
 got a l = record { value = a; left = l }
 
-unfoldable pub after : {A : Type 0} → A → Value A → Left → Got A
-after d (value a) l = got a l
-after d none l = got d lost
+unfoldable pub after : {A : Type 0} → A → Option A → Left → Got A
+after d (Some a) l = got a l
+after d None l = got d lost
 
--- The first word left is read by a rule, with a stand-in where reading is lost.
-unfoldable pub next : {A : Type 0} → A → (List ℕ → Value A) → Left → Got A
+-- The first word left is read by a rule, which says what a word stands for, if anything; with a stand-in where reading is lost.
+unfoldable pub next : {A : Type 0} → A → (List ℕ → Option A) → Left → Got A
 next d f (words []) = got d lost
 next d f (words (w ∷ ws)) = after d (f w) (words ws)
 next d f lost = got d lost

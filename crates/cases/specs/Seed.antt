@@ -1,6 +1,7 @@
 -- "SEED: what the bytes hold first."
-use Rattle.std.specs.Prelude.{cond, List, [], ◌∷◌, ◌++◌, ℕ, zero, suc, ◌+◌, ◌-◌, ◌*◌, ◌/◌, ◌%◌, eqb, ltb, replicate}
-use Rattle.cases.specs.Line.{Left, Value, value, none, Got, got, next}
+use Rattle.std.specs.Prelude.{cond, List, [], ◌∷◌, ◌++◌, ℕ, zero, suc, ◌+◌, ◌*◌, ◌/◌, ◌%◌, eqb, ltb, replicate, Option, Some, None}
+use Rattle.std.specs.Char.{is_digit, digit_value}
+use Rattle.cases.specs.Line.{Left, Got, got, next}
 use Rattle.cases.specs.Number.{natural, name_of}
 
 pub data Sown : Type 0 where
@@ -10,45 +11,43 @@ pub data Sown : Type 0 where
 
 -- What a hex digit stands for; 16 for what is none.
 unfoldable pub nibble : ℕ → ℕ
-nibble b =
-    cond (ltb b 48) 16
-    (cond (ltb b 58) (b - 48) (cond (ltb b 65) 16 (cond (ltb b 71) (b - 55) (cond (ltb b 97) 16 (cond (ltb b 103) (b - 87) 16)))))
+nibble b = cond (is_digit b 16) (digit_value b) 16
 
 abbrev pub byte : ℕ → ℕ → ℕ
 byte a b = nibble a % 16 * 16 + nibble b % 16
 
-unfoldable pub before : List ℕ → Value (List ℕ) → Value (List ℕ)
-before p (value bs) = value (p ++ bs)
-before p none = none
+unfoldable pub before : List ℕ → Option (List ℕ) → Option (List ℕ)
+before p (Some bs) = Some (p ++ bs)
+before p None = None
 
 -- "hex: those bytes, however many", two digits each.
-unfoldable pub hexes : List ℕ → Value (List ℕ)
-hexes [] = value []
-hexes (a ∷ []) = none
-hexes (a ∷ b ∷ w) = cond (ltb (nibble a) 16) (cond (ltb (nibble b) 16) (before (byte a b ∷ []) (hexes w)) none) none
+unfoldable pub hexes : List ℕ → Option (List ℕ)
+hexes [] = Some []
+hexes (a ∷ []) = None
+hexes (a ∷ b ∷ w) = cond (ltb (nibble a) 16) (cond (ltb (nibble b) 16) (before (byte a b ∷ []) (hexes w)) None) None
 
-unfoldable pub given_by : Value (List ℕ) → Value Sown
-given_by (value bs) = value (given bs)
-given_by none = none
+unfoldable pub given_by : Option (List ℕ) → Option Sown
+given_by (Some bs) = Some (given bs)
+given_by None = None
 
-unfoldable pub given_hex : List ℕ → Value Sown
+unfoldable pub given_hex : List ℕ → Option Sown
 given_hex w = given_by (hexes w)
 
-unfoldable pub counted_by : Value ℕ → Value Sown
-counted_by (value n) = value (counted n)
-counted_by none = none
+unfoldable pub counted_by : Option ℕ → Option Sown
+counted_by (Some n) = Some (counted n)
+counted_by None = None
 
 -- "A number s: .. `x` and then hex"
-unfoldable pub sowing : List ℕ → Value Sown
-sowing [] = none
+unfoldable pub sowing : List ℕ → Option Sown
+sowing [] = None
 sowing (b ∷ w) = cond (eqb b 120) (given_hex w) (counted_by (natural 4294967295 (b ∷ w)))
 
 -- "`z`: zeros."
 unfoldable pub seed_of : Left → Got Sown
 seed_of l = let z = name_of l in cond (eqb z.value 122) (got zeros z.left) (next (counted 0) sowing l)
 
-unfoldable pub filled : List ℕ → Value Sown
-filled [] = none
+unfoldable pub filled : List ℕ → Option Sown
+filled [] = None
 filled (b ∷ w) = given_hex (b ∷ w)
 
 -- "the file's bytes, `-` for none"

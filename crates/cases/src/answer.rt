@@ -1,5 +1,5 @@
 // The line that answers a case.
-ghost use Rattle.std.specs.Prelude.{◌≡◌, ◌≤◌, ◌<◌, ◌+◌, [], ◌∷◌, ◌++◌, length};
+ghost use Rattle.std.specs.Prelude.{◌≡◌, ◌≤◌, ◌<◌, ◌+◌, [], ◌∷◌, ◌++◌, length, codes};
 ghost use Rattle.cases.specs.Answer.{spelled, number, sides_text, found_text, answered};
 ghost use Rattle.cases.specs.Place.{Wrote};
 ghost use Rattle.cases.specs.Answer.{glyph as glyph_of, places as places_of};
@@ -24,25 +24,6 @@ pub struct Answer {
     pub hash: u64,
 }
 
-// The labels: their letters, a space first, one behind the other as the digits of base 256.
-const STATUS: u64 = 0x207374617475733d;
-
-const COUNT: u64 = 0x20636f756e743d;
-
-const ARGB: u64 = 0x20617267623d;
-
-const NONE: u64 = 0x206e6f6e65;
-
-const WIDTH: u64 = 0x20773d;
-
-const HEIGHT: u64 = 0x20683d;
-
-const CLEAR: u64 = 0x20636c6561723d;
-
-const START: u64 = 0x2061743d;
-
-const HASH: u64 = 0x20686173683d;
-
 // Ten digits, six letters, and above them each byte for itself.
 fn glyph(d: u64) -> u8
     requires { d < 256 }
@@ -63,12 +44,10 @@ fn put_digits(out: &mut [u8], at: usize, base: u64, k: usize, n: u64) -> usize
     requires k_in_bounds { at + k ≤ length out.old }
     ensures { Wrote (spelled base k n) out.old at out.new result }
 {
-    let mut i = k;
     let mut rest = n;
-    while 0 < i {
-        i -= 1;
+    for i in (0..k).rev() {
         out[at + i] = glyph(rest % base);
-        rest = rest / base;
+        rest /= base;
     }
     at + k
 }
@@ -79,16 +58,14 @@ fn places(base: u64, n: u64) -> usize
     ensures value { result ≡ places_of base 19 n }
     ensures upper_bound { result ≤ 20 }
 {
-    let mut k = 1;
     let mut rest = n;
-    while k < 20 {
+    for k in 1..20 {
         if rest < base {
             return k;
         }
-        rest = rest / base;
-        k += 1;
+        rest /= base;
     }
-    k
+    20
 }
 
 // Puts a number.
@@ -102,25 +79,35 @@ fn put_number(out: &mut [u8], at: usize, base: u64, n: u64) -> usize
     put_digits(out, at, base, k, n)
 }
 
-// Puts a label of k letters and a number.
-fn put_field(out: &mut [u8], at: usize, k: usize, label: u64, n: u64) -> usize
-    requires { at + k + 20 ≤ length out.old }
-    ensures wrote { Wrote (spelled 256 k label ++ number 10 n) out.old at out.new result }
-    ensures upper_bound { result ≤ at + k + 20 }
+// Puts a text, byte by byte.
+fn put_text(out: &mut [u8], at: usize, text: &[u8]) -> usize
+    requires { at + length text.now ≤ length out.old }
+    ensures { Wrote text.now out.old at out.new result }
 {
-    let from = put_digits(out, at, 256, k, label);
+    let end = at + text.len();
+    out[at..end].copy_from_slice(text);
+    end
+}
+
+// Puts a label and a number.
+fn put_field(out: &mut [u8], at: usize, label: &[u8], n: u64) -> usize
+    requires { at + length label.now + 20 ≤ length out.old }
+    ensures wrote { Wrote (label.now ++ number 10 n) out.old at out.new result }
+    ensures upper_bound { result ≤ at + length label.now + 20 }
+{
+    let from = put_text(out, at, label);
     put_number(out, from, 10, n)
 }
 
-// Puts an image's sides, and a label of k letters and a number.
-fn put_image(out: &mut [u8], at: usize, w: u32, h: u32, k: usize, label: u64, n: u64) -> usize
-    requires { at + k + 66 ≤ length out.old }
-    ensures wrote { Wrote (sides_text w h ++ (spelled 256 k label ++ number 10 n)) out.old at out.new result }
-    ensures upper_bound { result ≤ at + k + 66 }
+// Puts an image's sides, and a label and a number.
+fn put_image(out: &mut [u8], at: usize, w: u32, h: u32, label: &[u8], n: u64) -> usize
+    requires { at + length label.now + 66 ≤ length out.old }
+    ensures wrote { Wrote (sides_text w h ++ (label.now ++ number 10 n)) out.old at out.new result }
+    ensures upper_bound { result ≤ at + length label.now + 66 }
 {
-    let a = put_field(out, at, 3, WIDTH, w as u64);
-    let b = put_field(out, a, 3, HEIGHT, h as u64);
-    put_field(out, b, k, label, n)
+    let a = put_field(out, at, b" w=", u64::from(w));
+    let b = put_field(out, a, b" h=", u64::from(h));
+    put_field(out, b, label, n)
 }
 
 fn put_found(out: &mut [u8], at: usize, f: Found) -> usize
@@ -129,20 +116,20 @@ fn put_found(out: &mut [u8], at: usize, f: Found) -> usize
     ensures upper_bound { result ≤ at + 73 }
 {
     match f {
-        Found::Count(n) => put_field(out, at, 7, COUNT, n),
-        Found::Argb(n) => put_field(out, at, 6, ARGB, n as u64),
-        Found::Nothing => put_digits(out, at, 256, 5, NONE),
-        Found::Image { w, h, clear } => put_image(out, at, w, h, 7, CLEAR, clear),
-        Found::Icon { w, h, start } => put_image(out, at, w, h, 4, START, start),
+        Found::Count(n) => put_field(out, at, b" count=", n),
+        Found::Argb(n) => put_field(out, at, b" argb=", u64::from(n)),
+        Found::Nothing => put_text(out, at, b" none"),
+        Found::Image { w, h, clear } => put_image(out, at, w, h, b" clear=", clear),
+        Found::Icon { w, h, start } => put_image(out, at, w, h, b" at=", start),
     }
 }
 
 // Puts a hash and the line's end.
 fn put_hash(out: &mut [u8], at: usize, hash: u64) -> usize
     requires { at + 23 ≤ length out.old }
-    ensures { Wrote (spelled 256 6 0x20686173683d ++ spelled 16 16 hash ++ (10 ∷ [])) out.old at out.new result }
+    ensures { Wrote (codes " hash=" ++ spelled 16 16 hash ++ (10 ∷ [])) out.old at out.new result }
 {
-    let d = put_digits(out, at, 256, 6, HASH);
+    let d = put_text(out, at, b" hash=");
     let e = put_digits(out, d, 16, 16, hash);
     out[e] = 10;
     e + 1
@@ -158,7 +145,7 @@ pub fn write(answer: Answer, out: &mut [u8]) -> usize
     }
     let f = answer.found;
     let a = put_number(out, 0, 256, answer.name);
-    let b = put_field(out, a, 8, STATUS, answer.status as u64);
+    let b = put_field(out, a, b" status=", u64::from(answer.status));
     let c = put_found(out, b, f);
     put_hash(out, c, answer.hash)
 }

@@ -1,182 +1,104 @@
-// Words and numbers of a line. A place is an index of the line at which a word begins; one past the line's end no word
-// is left, and beyond that reading is lost.
-ghost use Rattle.std.specs.Prelude.{◌≡◌, ◌≤◌, ◌<◌};
-ghost use Rattle.cases.specs.Line.{next};
-ghost use Rattle.cases.specs.Place.{left_at, word_ends, this_letter, one_letter, one_digit, read, read_name};
-ghost use Rattle.cases.specs.Number.{number_of, behind, named_of, numeric, name_of};
+// The words of a line that are numbers or names.
+ghost use Rattle.std.specs.Prelude.{◌≡◌, List, ℕ, ◌∷◌, Some};
+ghost use Rattle.cases.specs.Line.{words, after};
+ghost use Rattle.cases.specs.Place.{Reads, left_of};
+ghost use Rattle.cases.specs.Number.{natural, behind, letters, name_of, named_of, signed_of, numeric};
 
-#[derive(Clone, Copy)]
-pub(crate) struct Number {
-    pub value: u32,
-    pub next: usize,
-}
+use crate::line::next_word;
+use crate::ops::Kind;
 
-// The letters of a word as a number, the first one highest.
-#[derive(Clone, Copy)]
-pub(crate) struct Name {
-    pub letters: u64,
-    pub next: usize,
-}
-
-pub(crate) fn wide(b: u8) -> u64
-    ensures value { result ≡ b }
-    ensures upper_bound { result < 256 }
+// The number that a word is, if it is at most so much.
+pub(crate) fn number(word: &[u8], most: u32) -> Option<u32>
+    ensures { result ≡ natural most word.now }
 {
-    b as u64
-}
-
-// Whether a word ends at a place.
-pub(crate) fn ends(line: &[u8], i: usize) -> bool
-    ensures { result ≡ word_ends line.now i }
-{
-    if line.len() <= i {
-        return i == line.len();
+    if word.is_empty() {
+        return None;
     }
-    line[i] == 32
-}
-
-// Whether one digit more stands at a place, with which the value is at most so much.
-fn digit(line: &[u8], i: usize, most: u64, value: u64) -> bool
-    requires { (value ≤ most) × (most < 4294967296) }
-    ensures { result ≡ one_digit line.now i most value }
-{
-    if line.len() <= i {
-        return false;
-    }
-    // The byte less 48, around 256: more than 9 for whatever is no digit.
-    let d = (wide(line[i]) + 208) % 256;
-    (d <= 9) & (value * 10 + d <= most)
-}
-
-// The number at a place, if it is at most so much.
-pub(crate) fn read_number(line: &[u8], at: usize, most: u32) -> Number
-    ensures result_value { read line.now result ≡ number_of most (left_at line.now at) }
-    ensures value_le_most { result.value ≤ most }
-{
-    let limit = most as u64;
-    let mut value: u64 = 0;
-    let mut i = at;
-    while digit(line, i, limit, value) {
-        value = value * 10 + (wide(line[i]) - 48);
-        i += 1;
-    }
-    if (i != at) & ends(line, i) {
-        return Number {
-            value: value as u32,
-            next: i + 1,
-        };
-    }
-    Number {
-        value: 0,
-        next: line.len() + 2,
-    }
-}
-
-// The number of a kind at a place: b is 0 or 1, c at most 255, a an i32 and given by its bits, and else a u32.
-pub(crate) fn read_kind(line: &[u8], at: usize, kind: u64) -> Number
-    ensures { read line.now result ≡ numeric kind (left_at line.now at) }
-{
-    if kind == 11 {
-        return read_number(line, at, 1);
-    }
-    if kind == 12 {
-        return read_number(line, at, 255);
-    }
-    if kind != 10 {
-        return read_number(line, at, 4294967295);
-    }
-    let n = read_number(line, at, 2147483647);
-    if n.next < line.len() + 2 {
-        return n;
-    }
-    let lost = Number {
-        value: 0,
-        next: line.len() + 2,
-    };
-    if line.len() <= at {
-        return lost;
-    }
-    if line[at] != 45 {
-        return lost;
-    }
-    let m = read_number(line, at + 1, 2147483648);
-    Number {
-        value: ((4294967296 - m.value as u64) % 4294967296) as u32,
-        next: m.next,
-    }
-}
-
-// Whether this letter stands at a place.
-fn stands(line: &[u8], i: usize, b: u8) -> bool
-    ensures { result ≡ this_letter line.now i b }
-{
-    if line.len() <= i {
-        return false;
-    }
-    (line[i] != 32) & (line[i] == b)
-}
-
-// The place behind a name in the word at a place, where its number begins; without the name, beyond the line.
-fn past(line: &[u8], at: usize, name: &[u8]) -> usize
-    ensures { next 0 (behind name.now) (left_at line.now at) ≡ number_of 4294967295 (left_at line.now result) }
-{
-    let mut i = at;
-    let mut k = 0;
-    while k < name.len() {
-        if !stands(line, i, name[k]) {
-            return line.len() + 2;
+    let mut value: u32 = 0;
+    for b in word {
+        let digit = char::from(*b).to_digit(10)?;
+        let longer = u64::from(value) * 10 + u64::from(digit);
+        if u64::from(most) < longer {
+            return None;
         }
-        i += 1;
-        k += 1;
+        value = longer as u32;
     }
-    i
+    Some(value)
 }
 
-// The number behind a name at a place; where no such word stands there, nothing is taken, and the number is what it is
-// absent.
-pub(crate) fn read_named(line: &[u8], at: usize, name: &[u8], absent: u32) -> Number
-    ensures { read line.now result ≡ named_of name.now absent (left_at line.now at) }
+// The number that an i32 is given by, its bits.
+fn signed(word: &[u8]) -> Option<u32>
+    ensures { (ws : List (List ℕ)) → after 0 result (words ws) ≡ signed_of (words (word.now ∷ ws)) }
 {
-    let from = past(line, at, name);
-    let n = read_number(line, from, 4294967295);
-    if n.next < line.len() + 2 {
-        return n;
-    }
-    Number {
-        value: absent,
-        next: at,
+    match word.strip_prefix(b"-") {
+        Some(digits) => Some(number(digits, 2147483648)?.wrapping_neg()),
+        None => number(word, 2147483647),
     }
 }
 
-// Whether one letter more stands at a place, behind these.
-fn letter(line: &[u8], i: usize, letters: u64) -> bool
-    ensures { result ≡ one_letter line.now i letters }
+// The number of a kind that a word is.
+fn numeric(word: &[u8], kind: Kind) -> Option<u32>
+    ensures { (ws : List (List ℕ)) → after 0 result (words ws) ≡ numeric kind (words (word.now ∷ ws)) }
 {
-    if line.len() <= i {
-        return false;
+    match kind {
+        Kind::Switch => number(word, 1),
+        Kind::Channel => number(word, 255),
+        Kind::Int => signed(word),
+        _ => number(word, u32::MAX),
     }
-    let b = line[i];
-    ((b != 32) & (b != 0)) & (letters <= 281474976710655)
 }
 
-// The name at a place: at most seven letters, none of them 0.
-pub(crate) fn read_name(line: &[u8], at: usize) -> Name
-    ensures { read_name line.now result ≡ name_of (left_at line.now at) }
+// The number of a kind that is the first word left.
+pub(crate) fn read_kind(left: Option<&[u8]>, kind: Kind) -> Option<(u32, Option<&[u8]>)>
+    ensures { Reads (λ n. n) result (numeric kind (left_of left.entry)) }
 {
-    let mut letters: u64 = 0;
-    let mut i = at;
-    while letter(line, i, letters) {
-        letters = letters * 256 + wide(line[i]);
-        i += 1;
+    let (word, left) = next_word(left)?;
+    Some((numeric(word, kind)?, left))
+}
+
+// The number behind a name.
+fn named(word: &[u8], name: &[u8]) -> Option<u32>
+    ensures { result ≡ behind name.now word.now }
+{
+    number(word.strip_prefix(name)?, u32::MAX)
+}
+
+// The number behind a name that begins the first word left; where no such word stands there, nothing is taken, and the
+// number is what it is absent.
+pub(crate) fn read_named<'a>(
+    left: Option<&'a [u8]>,
+    name: &[u8],
+    absent: u32,
+) -> (u32, Option<&'a [u8]>)
+    ensures { Reads (λ n. n) (Some result) (named_of name.now absent (left_of left.entry)) }
+{
+    let Some((word, after)) = next_word(left) else {
+        return (absent, left);
+    };
+    match named(word, name) {
+        Some(n) => (n, after),
+        None => (absent, left),
     }
-    if ends(line, i) {
-        return Name {
-            letters,
-            next: i + 1,
-        };
+}
+
+// The letters of a word as a number, the first one highest: at most seven, none of them 0.
+fn letters(word: &[u8]) -> Option<u64>
+    ensures { result ≡ letters 0 word.now }
+{
+    let mut value: u64 = 0;
+    for b in word {
+        if *b == 0 || 281474976710655 < value {
+            return None;
+        }
+        value = value * 256 + u64::from(*b);
     }
-    Name {
-        letters: 0,
-        next: line.len() + 2,
-    }
+    Some(value)
+}
+
+// The name that is the first word left.
+pub(crate) fn read_name(left: Option<&[u8]>) -> Option<(u64, Option<&[u8]>)>
+    ensures { Reads (λ n. n) result (name_of (left_of left.entry)) }
+{
+    let (word, left) = next_word(left)?;
+    Some((letters(word)?, left))
 }

@@ -1,176 +1,108 @@
 // What the bytes of a canvas hold first.
-ghost use Rattle.std.specs.Prelude.{◌≡◌, ◌≤◌, ◌<◌, ◌+◌, ◌*◌, length};
-ghost use Rattle.cases.specs.Line.{next};
-ghost use Rattle.cases.specs.Place.{left_at, read_seed, Within, Fills, sown, two_digits, pairs};
-ghost use Rattle.cases.specs.Seed.{seed_of, counted, given_hex, file_of, first_bytes, turns};
+ghost use Rattle.std.specs.Prelude.{◌≡◌, ◌<◌, ◌*◌, ◌%◌, length, option_map};
+ghost use Rattle.std.specs.List.{list_all};
+ghost use Rattle.std.specs.Char.{is_digit};
+ghost use Rattle.cases.specs.Place.{sown, Reads, left_of, Fills, pairs};
+ghost use Rattle.cases.specs.Seed.{given, seed_of, given_hex, file_of, first_bytes, turns};
 ghost use Rattle.cases.specs.Seed.{nibble as nibble_of};
 
-use crate::number::{ends, read_name, read_number};
+use crate::line::next_word;
+use crate::number::number;
 
 #[derive(Clone, Copy)]
-pub(crate) enum Seed {
+pub(crate) enum Seed<'a> {
     Zeros,
     Number(u32),
-    // Hex digits: where they begin in the line, and how many bytes they are.
-    Bytes(usize, usize),
+    // Hex digits, two for each byte.
+    Bytes(&'a [u8]),
 }
 
-#[derive(Clone, Copy)]
-pub(crate) struct Seeded {
-    pub seed: Seed,
-    pub next: usize,
-}
-
-// The seed at a place.
-pub(crate) fn read_seed(line: &[u8], at: usize) -> Seeded
-    ensures result_value { read_seed line.now result ≡ seed_of (left_at line.now at) }
-    ensures within { Within line.now result.seed }
+// The seed that is the first word left.
+pub(crate) fn read_seed(left: Option<&[u8]>) -> Option<(Seed<'_>, Option<&[u8]>)>
+    ensures { Reads sown result (seed_of (left_of left.entry)) }
 {
-    let z = read_name(line, at);
-    if z.letters == 122 {
-        return Seeded {
-            seed: Seed::Zeros,
-            next: z.next,
-        };
+    let (word, left) = next_word(left)?;
+    if word == b"z".as_slice() {
+        return Some((Seed::Zeros, left));
     }
-    if line.len() <= at {
-        return Seeded {
-            seed: Seed::Number(0),
-            next: line.len() + 2,
-        };
-    }
-    if line[at] == 120 {
-        return read_hex(line, at + 1);
-    }
-    let n = read_number(line, at, 4294967295);
-    Seeded {
-        seed: Seed::Number(n.value),
-        next: n.next,
+    match word.strip_prefix(b"x") {
+        Some(digits) => Some((Seed::Bytes(hex(digits)?), left)),
+        None => Some((Seed::Number(number(word, u32::MAX)?), left)),
     }
 }
 
-// A file's bytes at a place, in hex; a minus is none.
-pub(crate) fn read_file(line: &[u8], at: usize) -> Seeded
-    ensures result_value { read_seed line.now result ≡ file_of (left_at line.now at) }
-    ensures within { Within line.now result.seed }
+// A file's bytes as the first word left, in hex; a minus is none.
+pub(crate) fn read_file(left: Option<&[u8]>) -> Option<(Seed<'_>, Option<&[u8]>)>
+    ensures { Reads sown result (file_of (left_of left.entry)) }
 {
-    let m = read_name(line, at);
-    if m.letters == 45 {
-        return Seeded {
-            seed: Seed::Bytes(0, 0),
-            next: m.next,
-        };
+    let (word, left) = next_word(left)?;
+    if word == b"-".as_slice() {
+        return Some((Seed::Bytes(&[]), left));
     }
-    if line.len() <= at {
-        return Seeded {
-            seed: Seed::Number(0),
-            next: line.len() + 2,
-        };
+    if word.is_empty() {
+        return None;
     }
-    if line[at] == 32 {
-        return Seeded {
-            seed: Seed::Number(0),
-            next: line.len() + 2,
-        };
-    }
-    read_hex(line, at)
+    Some((Seed::Bytes(hex(word)?), left))
 }
 
-// Whether two hex digits stand at a place.
-fn pair(line: &[u8], i: usize) -> bool
-    requires { i ≤ length line.now }
-    ensures { result ≡ two_digits line.now i }
+fn is_digit(b: u8) -> bool
+    ensures { result ≡ is_digit b 16 }
 {
-    if line.len() <= i + 1 {
-        return false;
-    }
-    (nibble(line[i]) < 16) & (nibble(line[i + 1]) < 16)
+    char::from(b).is_digit(16)
 }
 
-// The pairs of hex digits from a place up to the word's end.
-fn read_hex(line: &[u8], at: usize) -> Seeded
-    requires { at ≤ length line.now }
-    ensures result_value { read_seed line.now result ≡ next (counted 0) given_hex (left_at line.now at) }
-    ensures within { Within line.now result.seed }
+fn all_digits(word: &[u8]) -> bool
+    ensures { result ≡ list_all (λ b. is_digit b 16) word.now }
 {
-    let mut i = at;
-    let mut n = 0;
-    while pair(line, i) {
-        i += 2;
-        n += 1;
-    }
-    if ends(line, i) {
-        return Seeded {
-            seed: Seed::Bytes(at, n),
-            next: i + 1,
-        };
-    }
-    Seeded {
-        seed: Seed::Number(0),
-        next: line.len() + 2,
-    }
+    word.iter().all(|b| is_digit(*b))
 }
 
-// What a hex digit stands for; 16 for what is none.
+// Hex digits, two for each byte.
+fn hex(word: &[u8]) -> Option<&[u8]>
+    ensures { option_map (λ d. given (pairs d.now)) result ≡ given_hex word.now }
+{
+    if word.len() % 2 != 0 {
+        return None;
+    }
+    if all_digits(word) { Some(word) } else { None }
+}
+
+// What a hex digit stands for; 0 for what is none.
 fn nibble(b: u8) -> u8
-    ensures { result ≡ nibble_of b }
+    ensures value { result ≡ nibble_of b % 16 }
+    ensures upper_bound { result < 16 }
 {
-    if b < 48 {
-        return 16;
-    }
-    if b < 58 {
-        return b - 48;
-    }
-    if b < 65 {
-        return 16;
-    }
-    if b < 71 {
-        return b - 55;
-    }
-    if b < 97 {
-        return 16;
-    }
-    if b < 103 {
-        return b - 87;
-    }
-    16
+    char::from(b).to_digit(16).unwrap_or(0) as u8
 }
 
 // Puts the seed's first bytes into all of bytes.
-pub(crate) fn sow(line: &[u8], seed: Seed, bytes: &mut [u8])
-    requires within { Within line.now seed }
-    requires fills { Fills seed (length bytes.old) }
-    ensures { bytes.new ≡ first_bytes (sown line.now seed) (length bytes.old) }
+pub(crate) fn sow(seed: Seed, bytes: &mut [u8])
+    requires { Fills (sown seed) (length bytes.old) }
+    ensures { bytes.new ≡ first_bytes (sown seed.entry) (length bytes.old) }
 {
     match seed {
-        Seed::Zeros => grow(0, 0, bytes),
-        Seed::Number(s) => grow(s, 1013904223, bytes),
-        Seed::Bytes(from, _) => decode(line, from, bytes),
+        Seed::Zeros => bytes.fill(0),
+        Seed::Number(s) => grow(s, bytes),
+        Seed::Bytes(digits) => decode(digits, bytes),
     }
 }
 
-// Each byte is the top one of the next t, which grows by the step.
-fn grow(s: u32, step: u64, bytes: &mut [u8])
-    requires { step < 4294967296 }
-    ensures { bytes.new ≡ turns step (length bytes.old) s }
+// Each byte is the top one of the next t.
+fn grow(s: u32, bytes: &mut [u8])
+    ensures { bytes.new ≡ turns 1013904223 (length bytes.old) s }
 {
-    let mut t = s as u64;
-    let mut i = 0;
-    while i < bytes.len() {
-        t = (t * 1664525 + step) % 4294967296;
-        bytes[i] = (t / 16777216) as u8;
-        i += 1;
+    let mut t = s;
+    for byte in bytes.iter_mut() {
+        t = t.wrapping_mul(1664525).wrapping_add(1013904223);
+        *byte = (t >> 24) as u8;
     }
 }
 
-fn decode(line: &[u8], from: usize, bytes: &mut [u8])
-    requires { from + 2 * length bytes.old ≤ length line.now }
-    ensures { bytes.new ≡ pairs line.now from (length bytes.old) }
+fn decode(digits: &[u8], bytes: &mut [u8])
+    requires { length bytes.old ≡ length (pairs digits.now) }
+    ensures { bytes.new ≡ pairs digits.now }
 {
-    let mut i = 0;
-    while i < bytes.len() {
-        let at = from + 2 * i;
-        bytes[i] = nibble(line[at]) % 16 * 16 + nibble(line[at + 1]) % 16;
-        i += 1;
+    for (i, byte) in bytes.iter_mut().enumerate() {
+        *byte = nibble(digits[2 * i]) * 16 + nibble(digits[2 * i + 1]);
     }
 }

@@ -22,12 +22,13 @@ use Rattle.lbmp.specs.declared.Image.{Image}
 use Rattle.lbmp.specs.declared.Refusal.{Refusal as Fault}
 use Rattle.cases.specs.declared.case.Case.{Case}
 use Rattle.cases.specs.declared.answer.Answer.{Answer}
+use Rattle.cases.specs.declared.answer.Found.{Found}
 use Rattle.cases.specs.declared.answer.Found.TheVariants as found
 use Rattle.cases.specs.Hash.{hash_of, all_bytes}
 use Rattle.cases.specs.Ops as op
 use Rattle.replies.specs.Numbers.{word_at, color_at, clip_at, canvas_at, clip_start}
 use Rattle.replies.specs.Calls.{drawn_by}
-use Rattle.replies.specs.Answers.{answer, told, counted, drew, drawn, looked, decoded, decoded_by, bitmap_of, Response, respond_by, respond_to}
+use Rattle.replies.specs.Answers.{answer, argb_of, told, counted, drew, drawn, looked, decoded, decoded_by, bitmap_of, Response, respond_by, respond_to}
 
 -- The colour and the clip are those of the line, and the hash is that of what the call leaves.
 pub drew-is : {a : Answer} {c : Color} {k : Clip} {at x : ℕ} {b' : List ℕ} (o : ℕ) (n : List ℕ) (v : Canvas) (image b : List ℕ) (d : Landed)
@@ -38,11 +39,12 @@ drew-is {b'} o n v image b d ea ec ek h ex e =
     let h' : leaves d b' ≡ drawn_by o n v (color_at n (clip_start o - 4)) (clip_at n (clip_start o)) image b = rw ea at (rw (ec, ek) at h) in
     rw (e, ex) (ap (drew o) h')
 
-pub looked-is : {a : Answer} {h : ℕ} {x y x' y' : ℤ} (v : Canvas) (b : List ℕ) (p : Result (Option Color) Refusal) → x ≡ x' → y ≡ y'
-    → reads p ≡ pixel_at v b x y → h ≡ hash_of b → a ≡ looked (reads p) h → a ≡ looked (pixel_at v b x' y') (hash_of b)
-looked-is {h = w} {x} {y} {x'} {y'} v b p ex ey h eh e =
+pub looked-is : {s h : ℕ} {f : Found} {x y x' y' : ℤ} (v : Canvas) (b : List ℕ) (p : Result (Option Color) Refusal) → x ≡ x' → y ≡ y'
+    → reads p ≡ pixel_at v b x y → h ≡ hash_of b → s ≡ (reads p).status → f ≡ argb_of (reads p).color
+    → answer op.get s f h ≡ looked (pixel_at v b x' y') (hash_of b)
+looked-is {x'} {y'} v b p ex ey h eh es ef =
     let h' : reads p ≡ pixel_at v b x' y' = rw (ex, ey) at h in
-    e ∙ ap (λ (r : Reading). looked r w) h' ∙ ap (looked (pixel_at v b x' y')) eh
+    rw (es, ef, eh) (ap (λ (r : Reading). looked r (hash_of b)) h')
 
 -- No more is taken or left than there is.
 module _ {A : Type 0} (k n : ℕ) (l : List A) (e : n ≡ min k (length l)) where

@@ -1,7 +1,6 @@
 -- Which call each op is.
 use mathlib.Core.Bool.{false}
 use mathlib.Core.List.{List}
-use mathlib.Core.Logic.{◌⊎◌, inl, inr}
 use mathlib.Core.Path.{◌≡◌, refl, sym, ap, ◌∙◌}
 use Prim.Native.Nat.{ℕ, ◌<◌, ◌^◌}
 use lib.IntN.{ℤ}
@@ -81,14 +80,6 @@ module _ (n : List ℕ) (v : Canvas) (k : Clip) (image b : List ℕ) where
 -- The outcome of the call of a name is that of the op.
 pub named : {A : Type 0} {r e : A} {o k : ℕ} (f : ℕ → A) → o ≡ k → f k ≡ e → r ≡ e → r ≡ f o
 named f q p h = h ∙ sym p ∙ ap f (sym q)
-
-pub either : {A : Type 0} {o : A} {n a b : ℕ} (f : ℕ → A) → o ≡ f a → o ≡ f b → (n ≡ a) ⊎ (n ≡ b) → o ≡ f n
-either f p q (inl e) = p ∙ ap f (sym e)
-either f p q (inr e) = q ∙ ap f (sym e)
-
-pub any_of : {A : Type 0} {o : A} {n a b c : ℕ} (f : ℕ → A) → o ≡ f a → o ≡ f b → o ≡ f c → (n ≡ a) ⊎ ((n ≡ b) ⊎ (n ≡ c)) → o ≡ f n
-any_of f p q r (inl e) = p ∙ ap f (sym e)
-any_of f p q r (inr e) = either f q r e
 
 -- A signed number reaches a callee as `to_z w (of_z w x)`.
 pub reaches : {z : ℤ} (x : ℤ) → mag x < 2 ^ hbits w32 → x ≡ z → to_z w32 (of_z w32 x) ≡ z

@@ -2,15 +2,19 @@
 use mathlib.Core.Bool.{Bool, true, false, cond}
 use mathlib.Core.List.{List, [], ◌∷◌, ◌++◌}
 use mathlib.Core.Path.{◌≡◌, refl, sym, ap, ◌∙◌}
-use Prim.Native.Nat.{ℕ, ◌-◌, ◌<◌, ◌≤◌}
+use Prim.Native.Nat.{ℕ, ◌+◌, ◌-◌, ◌<◌, ◌≤◌}
 use native.Mathlib.Omega.{arith}
+use native.Mathlib.Numerals.{unary_clauses}
 use lib.Dec.{eqb, ltb}
 use lib.ListN.{length, take, drop, get_or}
-use lib.Seq.{length-take-le, take-length}
-use borrow.Author.Tests.{eq-eqb, ne_eqb, lt-ltb, le-ltb, ltb-false}
+use borrow.Author.Tests.{lt-ltb, le-ltb, ltb-false}
+use Rattle.std.specs.Prelude.{Option, Some, None, MatchOption, unwrap_or}
+use Rattle.std.specs.Borrow.{Bor}
+use Rattle.std.specs.Cmp.Lexicographic.{pointwise}
+use Rattle.std.proofs.Math.Bool.{and-true}
 use Rattle.cases.specs.declared.case.Case.{Case}
 use Rattle.cases.specs.declared.answer.Answer.{Answer}
-use Rattle.cases.specs.Case.{Outcome, no_case, known, case_of}
+use Rattle.cases.specs.Case.{no_case, known, case_of}
 use Rattle.cases.specs.Line.{words_of, first_word, other_words, after, next, or_else, first_of}
 use Rattle.cases.specs.Number.{natural, number_of, behind, named_of, numeric, name_of}
 use Rattle.cases.specs.Seed.{seed_of}
@@ -20,49 +24,60 @@ use Rattle.cases.proofs.Texts.{answered-within}
 use Rattle.replies.specs.Answers.{Response, response, respond_to}
 use Rattle.replies.specs.Replies.{without_return, text_of, refused, Reply, reply, answered_by, reply_to, replied}
 
-pub no_end : (line : List ℕ) → length line ≡ 0 → [] ≡ without_return line
+-- The last byte of a line, as the library compares it.
+last_of : (b : ℕ) (s : List ℕ) → pointwise eqb (drop (length s) (b ∷ s)) (13 ∷ []) ≡ eqb (get_or (b ∷ s) (length s) 0) 13
+last_of b [] = and-true (eqb b 13)
+last_of b (c ∷ s) = last_of c s
+
+last_is : (line : List ℕ) → pointwise eqb (drop (length line - 1) line) (13 ∷ []) ≡ eqb (get_or line (length line - 1) 0) 13
+last_is [] = refl
+last_is (b ∷ s) = simp unary_clauses (last_of b s)
+
+a_return : (line : List ℕ) → pointwise eqb (drop (length line - 1) line) (13 ∷ []) ≡ true → take (length line - 1) line ≡ without_return line
 unfolding without_return
-no_end [] h = refl
-no_end (b ∷ s) h = let z : ⊥ = omega arith in absurd z
+a_return line h = rw (sym (last_is line) ∙ h)
 
-pub with_return : (line : List ℕ) → get_or line (length line - 1) 0 ≡ 13 → take (length line - 1) line ≡ without_return line
+no_return : (line : List ℕ) → pointwise eqb (drop (length line - 1) line) (13 ∷ []) ≡ false → line ≡ without_return line
 unfolding without_return
-with_return line h = rw (eq-eqb (get_or line (length line - 1) 0) 13 h)
+no_return line h = rw (sym (last_is line) ∙ h)
 
-pub without_return_lem : (line : List ℕ) → (get_or line (length line - 1) 0 ≡ 13 → ⊥) → take (length line) line ≡ without_return line
-unfolding without_return
-without_return_lem line h = rw (ne_eqb (get_or line (length line - 1) 0) 13 h) (take-length line)
+pub stripped : (line : Bor (List ℕ)) (r : Option (Bor (List ℕ)))
+    → MatchOption r (pointwise eqb (drop (length line.now - 1) line.now) (13 ∷ []) ≡ false)
+    (λ x. (pointwise eqb (drop (length line.now - 1) line.now) (13 ∷ []) ≡ true) × (x.now ≡ take (length line.now - 1) line.now)
+    × (length x.now + 1 ≡ length line.now))
+    → (unwrap_or r line).now ≡ without_return line.now
+stripped line None m = no_return line.now m
+stripped line (Some x) m = m.1 ∙ a_return line.now m.0
 
-module _ (line : List ℕ) (n : ℕ) (fits : n ≤ length line) (e : take n line ≡ without_return line) where
-  long : length (without_return line) ≡ n
-  long = sym (ap length e) ∙ length-take-le n line fits
+pub too_long : (line t : List ℕ) → t ≡ without_return line → 65536 < length t → [] ≡ text_of line
+unfolding text_of
+too_long line t e h = rw (← e, lt-ltb 65536 (length t) h)
 
-  pub too_long : 65536 < n → [] ≡ text_of line
-  unfolding text_of
-  too_long h = let w : 65536 < length (without_return line) = omega (arith, long) in rw (lt-ltb 65536 (length (without_return line)) w)
+pub short : (line t : List ℕ) → t ≡ without_return line → length t ≤ 65536 → t ≡ text_of line
+unfolding text_of
+short line t e h = rw (← e, le-ltb 65536 (length t) h)
 
-  pub short : n ≤ 65536 → take n line ≡ text_of line
-  unfolding text_of
-  short h = let w : length (without_return line) ≤ 65536 = omega (arith, long) in rw (le-ltb 65536 (length (without_return line)) w) e
+module _ {r : ℕ} {out' b' i' : List ℕ} (line b i ws out : List ℕ) where
+  pub refused-is : (None, b', i') ≡ case_of (text_of line) b i → (r, out') ≡ refused out → reply (r, out') b' i' ws ≡ replied line b i ws out
+  unfolding replied reply_to
+  refused-is h e = rw (← h) (ap (λ (a : ℕ × List ℕ). reply a b' i' ws) e)
 
-module _ {r : ℕ} {out' : List ℕ} (c : Case) (b i ws out : List ℕ) where
-  pub refused-is : c.name ≡ 0 → (r, out') ≡ refused out → reply (r, out') b i ws ≡ reply_to c b i ws out
-  unfolding reply_to
-  refused-is h e = rw (eq-eqb c.name 0 h) (ap (λ (a : ℕ × List ℕ). reply a b i ws) e)
+  pub answered-is : {a : Answer} {b″ ws' : List ℕ} (c : Case) → (Some c, b', i') ≡ case_of (text_of line) b i
+      → response a b″ ws' ≡ respond_to c (take c.bytes b') (take c.image i') ws → (r, out') ≡ answered a out
+      → reply (r, out') (b″ ++ drop c.bytes b') i' ws' ≡ replied line b i ws out
+  unfolding replied reply_to answered_by
+  answered-is {b″} {ws'} c h e w =
+      rw (← h)
+      (ap (λ (a : ℕ × List ℕ). reply a (b″ ++ drop c.bytes b') i' ws') w ∙ ap (λ (x : Response). answered_by x c.bytes b' i' out) e)
 
-  pub answered-is : {a : Answer} {b' ws' : List ℕ} → (c.name ≡ 0 → ⊥) → response a b' ws' ≡ respond_to c (take c.bytes b) (take c.image i) ws
-      → (r, out') ≡ answered a out → reply (r, out') (b' ++ drop c.bytes b) i ws' ≡ reply_to c b i ws out
-  unfolding reply_to answered_by
-  answered-is {b'} {ws'} n h e =
-      rw (ne_eqb c.name 0 n)
-      (ap (λ (a : ℕ × List ℕ). reply a (b' ++ drop c.bytes b) i ws') e ∙ ap (λ (x : Response). answered_by x c.bytes b i out) h)
-
-pub replied-is : {c : Case} {r : Reply} {b' i' : List ℕ} (n : ℕ) (line b i ws out : List ℕ) → take n line ≡ text_of line
-    → (c, b', i') ≡ case_of (take n line) b i → r ≡ reply_to c b' i' ws out → r ≡ replied line b i ws out
-unfolding replied
-replied-is {c} {b'} {i'} n line b i ws out t e h =
-    let e' : (c, b', i') ≡ case_of (text_of line) b i = rw t at e in
-    h ∙ ap (λ (x : Outcome). reply_to x.0 x.1 x.2 ws out) e'
+-- What is copied over the first bytes stands there.
+pub four_placed : (a b c d : ℕ) (out : List ℕ) → 4 ≤ length out → (a ∷ b ∷ c ∷ d ∷ []) ++ drop 4 out ≡ placed out 0 (a ∷ b ∷ c ∷ d ∷ [])
+unfolding placed
+four_placed a b c d (w ∷ x ∷ y ∷ z ∷ out) h = refl
+four_placed a b c d (w ∷ x ∷ y ∷ []) h = absurd (omega arith)
+four_placed a b c d (w ∷ x ∷ []) h = absurd (omega arith)
+four_placed a b c d (w ∷ []) h = absurd (omega arith)
+four_placed a b c d [] h = absurd (omega arith)
 
 -- The answer's line is within out.
 module _ (out : List ℕ) where
@@ -74,17 +89,16 @@ module _ (out : List ℕ) where
   unfolding refused
   refused-within = refused_by (ltb (length out) 144) refl
 
-  reply_by : (c : Case) (b i ws : List ℕ) (q : Bool)
-      → (cond q (reply (refused out) b i ws) (answered_by (respond_to c (take c.bytes b) (take c.image i) ws) c.bytes b i out)).long ≤ length out
-  unfolding answered_by
-  reply_by c b i ws true = refused-within
-  reply_by c b i ws false = answered-within (respond_to c (take c.bytes b) (take c.image i) ws).answer out
+  reply_within : (c : Option Case) (b i ws : List ℕ) → (reply_to c b i ws out).long ≤ length out
+  unfolding reply_to answered_by
+  reply_within None b i ws = refused-within
+  reply_within (Some c) b i ws = answered-within (respond_to c (take c.bytes b) (take c.image i) ws).answer out
 
   pub replied-within : {r : Reply} (line b i ws : List ℕ) → r ≡ replied line b i ws out → r.long ≤ length out
-  unfolding replied reply_to
+  unfolding replied
   replied-within line b i ws e =
       let x = case_of (text_of line) b i in
-      rw (ap (λ (o : Reply). o.long) e) (reply_by x.0 x.1 x.2 ws (eqb x.0.name 0))
+      rw (ap (λ (o : Reply). o.long) e) (reply_within x.0 x.1 x.2 ws)
 
 -- An empty line is bad, and so is one that is too long.
 pub empty_is_bad : (b i : List ℕ) → case_of [] b i ≡ (no_case, b, i)

@@ -1,5 +1,5 @@
 -- One line in, one line out.
-use Rattle.std.specs.Prelude.{cond, List, [], ◌∷◌, ◌++◌, ℕ, ◌-◌, eqb, ltb, length, take, drop, get_or}
+use Rattle.std.specs.Prelude.{cond, List, [], ◌∷◌, ◌++◌, ℕ, ◌-◌, eqb, ltb, length, take, drop, get_or, Option, Some, None}
 use Rattle.cases.specs.declared.case.Case.{Case}
 use Rattle.cases.specs.Case.{case_of}
 use Rattle.cases.specs.Answer.{placed, answered}
@@ -33,10 +33,9 @@ unfoldable pub answered_by : Response → ℕ → List ℕ → List ℕ → List
 answered_by r n b i out = reply (answered r.answer out) (r.bytes ++ drop n b) i r.words
 
 -- The reply to a case: bad where the line can't be read.
-unfoldable pub reply_to : Case → List ℕ → List ℕ → List ℕ → List ℕ → Reply
-reply_to c b i ws out =
-    cond (eqb c.name 0) (reply (refused out) b i ws)
-    (answered_by (respond_to c (take c.bytes b) (take c.image i) ws) c.bytes b i out)
+unfoldable pub reply_to : Option Case → List ℕ → List ℕ → List ℕ → List ℕ → Reply
+reply_to None b i ws out = reply (refused out) b i ws
+reply_to (Some c) b i ws out = answered_by (respond_to c (take c.bytes b) (take c.image i) ws) c.bytes b i out
 
 -- The reply to a line.
 unfoldable pub replied : List ℕ → List ℕ → List ℕ → List ℕ → List ℕ → Reply

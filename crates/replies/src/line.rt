@@ -1,37 +1,29 @@
 // The reply to a line.
-ghost use Rattle.std.specs.Prelude.{◌≡◌, ◌≤◌, ◌-◌, List, length, take, get_or, eqb};
-ghost use Rattle.replies.specs.Replies.{without_return, text_of, refused, reply_to, replied};
+ghost use Rattle.std.specs.Prelude.{◌≡◌};
+ghost use Rattle.replies.specs.Replies.{without_return, text_of, refused, replied};
 ghost use Rattle.replies.specs.Replies.{reply as left};
 
 use crate::answers::respond;
-use cases::Case;
 
 // The longest line that is read; what is longer is bad.
 const LONGEST: usize = 65536;
 
-// Where a line ends, without a CR.
-fn text_end(line: &[u8]) -> usize
-    ensures { (result ≤ length line.now) × (take result line.now ≡ without_return line.now) }
+// A line without a CR at its end.
+fn without_return(line: &[u8]) -> &[u8]
+    ensures { result.now ≡ without_return line.now }
 {
-    let n = line.len();
-    if n == 0 {
-        return 0;
-    }
-    if line[n - 1] == 13 {
-        return n - 1;
-    }
-    n
+    line.strip_suffix(b"\r").unwrap_or(line)
 }
 
-// How much of a line is read.
-fn text_of(line: &[u8]) -> usize
-    ensures { (result ≤ length line.now) × (take result line.now ≡ text_of line.now) }
+// What is read of a line.
+fn text_of(line: &[u8]) -> &[u8]
+    ensures { result.now ≡ text_of line.now }
 {
-    let n = text_end(line);
-    if LONGEST < n {
-        return 0;
+    let text = without_return(line);
+    if LONGEST < text.len() {
+        return &text[..0];
     }
-    n
+    text
 }
 
 // Answers a line that can't be read.
@@ -41,25 +33,8 @@ fn refuse(out: &mut [u8]) -> usize
     if out.len() < 144 {
         return 0;
     }
-    out[0] = b'b';
-    out[1] = b'a';
-    out[2] = b'd';
-    out[3] = b'\n';
+    out[..4].copy_from_slice(b"bad\n");
     4
-}
-
-// Answers a case, whose bytes and image are at the start of those lent.
-fn reply_to(c: Case, bytes: &mut [u8], image: &[u8], words: &mut [u32], out: &mut [u8]) -> usize
-    requires { (c.bytes ≤ length bytes.old) × (c.image ≤ length image.now) }
-    ensures { left (result, out.new) bytes.new image.now words.new ≡ reply_to c bytes.old image.now words.old out.old }
-{
-    if c.name == 0 {
-        return refuse(out);
-    }
-    let n = c.bytes;
-    let m = c.image;
-    let a = respond(c, &mut bytes[..n], &image[..m], words);
-    cases::write(a, out)
 }
 
 // Makes the call of a line, and puts the line that answers it at the start of out; answers its length. With less than
@@ -73,7 +48,9 @@ pub fn reply(
 ) -> usize
     ensures { left (result, out.new) bytes.new image.new words.new ≡ replied line.now bytes.old image.old words.old out.old }
 {
-    let n = text_of(line);
-    let c = cases::read(&line[..n], bytes, image);
-    reply_to(c, bytes, image, words, out)
+    let Some(case) = cases::read(text_of(line), bytes, image) else {
+        return refuse(out);
+    };
+    let answer = respond(case, &mut bytes[..case.bytes], &image[..case.image], words);
+    cases::write(answer, out)
 }

@@ -1,7 +1,7 @@
 -- From the canvas's answers to C's records; a signed argument reaches a callee as `to_z w (of_z w x)`.
-use Rattle.std.specs.Prelude.{Option, Result}
-use mathlib.Core.Path.{◌≡◌, sym, ap, ◌∙◌}
-use mathlib.Core.Bool.{Bool}
+use Rattle.std.specs.Prelude.{Option, Some, None, Result, Ok}
+use mathlib.Core.Path.{◌≡◌, refl, sym, ap, ◌∙◌}
+use mathlib.Core.Bool.{Bool, true, false}
 use mathlib.Core.List.{List}
 use Prim.Native.Nat.{ℕ}
 use lib.IntN.{ℤ}
@@ -9,11 +9,14 @@ use mir.Syntax.{w32}
 use mir.Val.{SFits, to_z, of_z}
 use mir.ValLaws.{to_z-of_z}
 use Rattle.words.specs.declared.Color.{Color}
+use Rattle.words.specs.Format.{argb}
+use Rattle.words.specs.Word.{from_color}
 use Rattle.pixels.specs.declared.Canvas.{Canvas}
 use Rattle.canvas.specs.declared.Clip.{Clip}
 use Rattle.canvas.specs.declared.Refusal.{Refusal}
 use Rattle.canvas.specs.Call.{Call, Outcome, Landed, status_of, count_of, leaves, call}
-use Rattle.canvas.specs.Look.{reads, pixel_at}
+use Rattle.canvas.specs.Look.{seen_of, reads, pixel_at}
+use Rattle.canvas.specs.Look as look
 use Rattle.images.specs.Areas.{counted}
 use Rattle.tuyrashka.specs.Exported.{color_of, drawn_of, gives, tells}
 
@@ -46,3 +49,14 @@ pub shows : {v v' : Canvas} {x y : ℤ} {t : ℕ × (Bool × ℕ)} (b : List ℕ
 shows {v} {v'} {x} {y} b p fx fy ev e h =
     let h' : reads p ≡ pixel_at v b x y = rw (to_z-of_z w32 x fx, to_z-of_z w32 y fy) at (rw ev at h) in
     e ∙ ap tells h'
+
+-- nothing off the canvas, and a colour on it
+pub nothing_seen : (p : Result (Option Color) Refusal) {o : Option Color} → p ≡ Ok o → o ≡ None
+    → ◌≡◌ {A = ℕ × (Bool × ℕ)} (0, (false, 0)) (tells (reads p))
+unfolding look.status_of seen_of tells
+nothing_seen p e k = rw (e, k) refl
+
+pub color_seen : (p : Result (Option Color) Refusal) {o : Option Color} {c : Color} {w : ℕ} → p ≡ Ok o → o ≡ Some c → w ≡ from_color argb c
+    → ◌≡◌ {A = ℕ × (Bool × ℕ)} (0, (true, w)) (tells (reads p))
+unfolding look.status_of seen_of tells
+color_seen p e k h = rw (e, k, h) refl

@@ -119,12 +119,14 @@ pub fn tuyrashka_get_pixel(
     *argb = 0;
     match p {
         Err(r) => r.number(),
-        Ok(None) => 0,
-        Ok(Some(c)) => {
-            *found = true;
-            *argb = words::from_color(3, c);
-            0
-        }
+        Ok(seen) => match seen {
+            None => 0,
+            Some(c) => {
+                *found = true;
+                *argb = words::from_color(3, c);
+                0
+            }
+        },
     }
 }
 

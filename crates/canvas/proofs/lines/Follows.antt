@@ -10,7 +10,8 @@ use Rattle.canvas.specs.declared.lines.Way.{Way}
 use Rattle.canvas.specs.Plot.{Point, at}
 use Rattle.canvas.specs.Lines.{Stand, stand, step, walk, towards, bresenham}
 use Rattle.canvas.specs.Walk.{lifted, lowered}
-use Rattle.canvas.specs.Trail.{apart, way_of, pen_of, toward, across, along, next, ahead, trail, Side, Goes, Steps, Sets}
+use Rattle.std.specs.Int.{abs_diff}
+use Rattle.canvas.specs.Trail.{way_of, pen_of, toward, across, along, next, ahead, trail, Side, Goes, Steps, Sets}
 use Rattle.canvas.proofs.span.Lifts.{lifted-lt, lower_lift, lift_is}
 use Rattle.canvas.proofs.span.Spans.{same_leb}
 use Rattle.canvas.proofs.span.Differences.{sub_ltZ, sub-eq, sub-add, sub-sub, sub_abs, pos_sub, neg_pos, lifted-sub}
@@ -101,7 +102,7 @@ side_of a b = go (dec_lt a b)
     go (yes h) = rw (lt-ltb a b h) (omega arith)
     go (no h) = rw (le-ltb a b (omega arith)) (omega arith)
 
-far : (a b : ℤ) → SFits w32 a → SFits w32 b → nat_abs (b -ℤ a) ≡ apart (lifted a) (lifted b)
+far : (a b : ℤ) → SFits w32 a → SFits w32 b → nat_abs (b -ℤ a) ≡ abs_diff (lifted a) (lifted b)
 far a b s t =
     ap nat_abs (ap₂ ◌-ℤ◌ (lifted-sub b t) (lifted-sub a s) ∙ sub-sub (lifted b) 2147483648 (lifted a) 2147483648)
     ∙ sub_abs (lifted b + 2147483648) (2147483648 + lifted a) ∙ omega arith
@@ -127,7 +128,7 @@ module _ (s : Segment) (f : Ends s) where
       let c = lifted-lt s.x2 f.x2 in
       let d = lifted-lt s.y2 f.y2 in
       record {
-        good = good_start (apart (lifted s.x1) (lifted s.x2)) (apart (lifted s.y1) (lifted s.y2));
+        good = good_start (abs_diff (lifted s.x1) (lifted s.x2)) (abs_diff (lifted s.y1) (lifted s.y2));
         side-x = side_of (lifted s.x1) (lifted s.x2);
         side-y = side_of (lifted s.y1) (lifted s.y2);
         low_x = a;
@@ -147,7 +148,7 @@ module _ (s : Segment) (f : Ends s) where
 
   all_ahead : ahead (way_of s) (pen_of s) ≡ max (way_of s).dx (way_of s).dy
   unfolding ahead pen_of way_of
-  all_ahead = longer (apart (lifted s.x1) (lifted s.x2)) (apart (lifted s.y1) (lifted s.y2))
+  all_ahead = longer (abs_diff (lifted s.x1) (lifted s.x2)) (abs_diff (lifted s.y1) (lifted s.y2))
 
   pub trail-bresenham : trail (way_of s) (ahead (way_of s) (pen_of s)) (pen_of s) ≡ bresenham s
   unfolding bresenham way_of
@@ -158,7 +159,7 @@ module _ (s : Segment) (f : Ends s) where
   pub sets : Sets s
   sets = record { goes = sets_out; path = trail-bresenham }
 
-  module _ (x1 y1 x2 y2 dx dy : ℕ) (ex1 : x1 ≡ lifted (to_z w32 (of_z w32 s.x1))) (ey1 : y1 ≡ lifted (to_z w32 (of_z w32 s.y1))) (ex2 : x2 ≡ lifted (to_z w32 (of_z w32 s.x2))) (ey2 : y2 ≡ lifted (to_z w32 (of_z w32 s.y2))) (edx : dx ≡ apart x1 x2) (edy : dy ≡ apart y1 y2) where
+  module _ (x1 y1 x2 y2 dx dy : ℕ) (ex1 : x1 ≡ lifted (to_z w32 (of_z w32 s.x1))) (ey1 : y1 ≡ lifted (to_z w32 (of_z w32 s.y1))) (ex2 : x2 ≡ lifted (to_z w32 (of_z w32 s.x2))) (ey2 : y2 ≡ lifted (to_z w32 (of_z w32 s.y2))) (edx : dx ≡ abs_diff x1 x2) (edy : dy ≡ abs_diff y1 y2) where
     pub way_is : record { x = x2; y = y2; dx = dx; dy = dy; right = ltb x1 x2; down = ltb y1 y2 } ≡ way_of s
     unfolding way_of
     way_is = rw (edx, edy, lift_is s.x1 x1 f.x1 ex1, lift_is s.y1 y1 f.y1 ey1, lift_is s.x2 x2 f.x2 ex2, lift_is s.y2 y2 f.y2 ey2) refl

@@ -13,7 +13,8 @@ use Rattle.canvas.specs.declared.lines.Way.{Way}
 use Rattle.canvas.specs.Plot.{Point, at, inks}
 use Rattle.canvas.specs.Lines.{bresenham, between, line}
 use Rattle.canvas.specs.Walk.{lowered, Work, Did, dabbed, dabs, Window}
-use Rattle.canvas.specs.Trail.{apart, way_of, pen_of, next, ahead, trail, Goes, Steps, Sets}
+use Rattle.std.specs.Int.{abs_diff}
+use Rattle.canvas.specs.Trail.{way_of, pen_of, next, ahead, trail, Goes, Steps, Sets}
 use Rattle.canvas.proofs.plot.Draws.{did_none}
 use Rattle.canvas.proofs.plot.Dabs.{Dabbing, dabbing_start, dabbing_step, dabbing_end, dabs_did}
 use Rattle.canvas.proofs.lines.Ways.{goes-next, nearer, at-end}
@@ -27,7 +28,7 @@ pub ahead-lt : (w : Way) (s : Pen) → Goes w s → ahead w s < 4294967296
 unfolding ahead
 ahead-lt w s g = go (dec_le w.dy w.dx)
   where
-    go : Dec (w.dy ≤ w.dx) → cond (leb w.dy w.dx) (apart s.x w.x) (apart s.y w.y) < 4294967296
+    go : Dec (w.dy ≤ w.dx) → cond (leb w.dy w.dx) (abs_diff s.x w.x) (abs_diff s.y w.y) < 4294967296
     go (yes h) = rw (le-leb w.dy w.dx h) (omega (arith, g.low_x, g.end-x))
     go (no h) = rw (lt-leb w.dy w.dx (omega arith)) (omega (arith, g.low-y, g.end-y))
 

@@ -5,27 +5,28 @@ use native.Mathlib.Decide.{ℕ_discrete, dec_le}
 use borrow.Author.Tests.{lt-leb}
 use Rattle.canvas.specs.declared.lines.Pen.{Pen}
 use Rattle.canvas.specs.declared.lines.Way.{Way}
-use Rattle.canvas.specs.Trail.{apart, toward, across, along, next, ahead, Side, Goes, Steps}
+use Rattle.std.specs.Int.{abs_diff}
+use Rattle.canvas.specs.Trail.{toward, across, along, next, ahead, Side, Goes, Steps}
 use Rattle.canvas.proofs.lines.Good.{good-end, end-good, good-small, Stepped, good-step}
 
 -- ---- one column or row
 
-pub toward-near : (t : Bool) (x end : ℕ) → Side t x end → 0 < apart x end → apart (toward t x) end ≡ apart x end - 1
+pub toward-near : (t : Bool) (x end : ℕ) → Side t x end → 0 < abs_diff x end → abs_diff (toward t x) end ≡ abs_diff x end - 1
 unfolding Side toward
 toward-near true x end s h = omega arith
 toward-near false x end s h = omega arith
 
-toward-side : (t : Bool) (x end : ℕ) → Side t x end → 0 < apart x end → Side t (toward t x) end
+toward-side : (t : Bool) (x end : ℕ) → Side t x end → 0 < abs_diff x end → Side t (toward t x) end
 unfolding Side toward
 toward-side true x end s h = omega arith
 toward-side false x end s h = omega arith
 
-toward-low : (t : Bool) (x end : ℕ) → Side t x end → 0 < apart x end → x < 4294967296 → end < 4294967296 → toward t x < 4294967296
+toward-low : (t : Bool) (x end : ℕ) → Side t x end → 0 < abs_diff x end → x < 4294967296 → end < 4294967296 → toward t x < 4294967296
 unfolding Side toward
 toward-low true x end s h l m = omega arith
 toward-low false x end s h l m = omega arith
 
-pub back_one : (t : Bool) (x end : ℕ) → Side t x end → 0 < apart x end → t ≡ false → 1 ≤ x
+pub back_one : (t : Bool) (x end : ℕ) → Side t x end → 0 < abs_diff x end → t ≡ false → 1 ≤ x
 unfolding Side
 back_one true x end s h e = absurd (let z : ◌≡◌ {A = ℕ} 0 1 = cc in omega arith)
 back_one false x end s h e = omega arith
@@ -33,9 +34,9 @@ back_one false x end s h e = omega arith
 -- ---- a step
 
 module _ (w : Way) (s : Pen) (k : Steps w s) where
-  pub stepped : Stepped w.dx w.dy (apart s.x w.x) (apart s.y w.y) s.e
+  pub stepped : Stepped w.dx w.dy (abs_diff s.x w.x) (abs_diff s.y w.y) s.e
   unfolding ahead
-  stepped = good-step w.dx w.dy (apart s.x w.x) (apart s.y w.y) s.e k.goes.good k.more
+  stepped = good-step w.dx w.dy (abs_diff s.x w.x) (abs_diff s.y w.y) s.e k.goes.good k.more
 
   pub small : s.e < 68719476736
   unfolding ahead
@@ -61,10 +62,10 @@ module _ (w : Way) (s : Pen) (k : Steps w s) where
   unfolding across along
   then_y e = stepped.some e
 
-  pub room-x : across w s ≡ true → 0 < apart s.x w.x
+  pub room-x : across w s ≡ true → 0 < abs_diff s.x w.x
   room-x e = stepped.room-x (takes_x e)
 
-  pub room-y : along w s ≡ true → 0 < apart s.y w.y
+  pub room-y : along w s ≡ true → 0 < abs_diff s.y w.y
   room-y e = stepped.room-y (takes_y e)
 
   -- the three steps that there are
@@ -144,11 +145,11 @@ module _ (w : Way) (s : Pen) (k : Steps w s) where
   unfolding along
   yes_y h = lt-ltb (2 * s.e) (w.dx + 4 * w.dy) h
 
-  one_less_x : across w s ≡ true → apart s.x w.x ≡ suc (apart (next w s).x w.x)
+  one_less_x : across w s ≡ true → abs_diff s.x w.x ≡ suc (abs_diff (next w s).x w.x)
   unfolding next
   one_less_x a = rw a (omega (arith, toward-near w.right s.x w.x k.goes.side-x (room-x a), room-x a))
 
-  one_less_y : along w s ≡ true → apart s.y w.y ≡ suc (apart (next w s).y w.y)
+  one_less_y : along w s ≡ true → abs_diff s.y w.y ≡ suc (abs_diff (next w s).y w.y)
   unfolding next
   one_less_y b = rw b (omega (arith, toward-near w.down s.y w.y k.goes.side-y (room-y b), room-y b))
 
@@ -157,7 +158,7 @@ module _ (w : Way) (s : Pen) (k : Steps w s) where
   unfolding ahead
   nearer = go (dec_le w.dy w.dx)
     where
-      go : Dec (w.dy ≤ w.dx) → cond (leb w.dy w.dx) (apart s.x w.x) (apart s.y w.y) ≡ suc (cond (leb w.dy w.dx) (apart (next w s).x w.x) (apart (next w s).y w.y))
+      go : Dec (w.dy ≤ w.dx) → cond (leb w.dy w.dx) (abs_diff s.x w.x) (abs_diff s.y w.y) ≡ suc (cond (leb w.dy w.dx) (abs_diff (next w s).x w.x) (abs_diff (next w s).y w.y))
       go (yes p) = rw (le-leb w.dy w.dx p) (one_less_x (yes_x (stepped.falls_x p)))
       go (no p) = rw (lt-leb w.dy w.dx (omega arith)) (one_less_y (yes_y (stepped.falls_y (omega arith))))
 
@@ -166,7 +167,7 @@ module _ (w : Way) (s : Pen) (k : Steps w s) where
 module _ (w : Way) (s : Pen) (g : Goes w s) where
   pub at-end : s.x ≡ w.x → s.y ≡ w.y → ahead w s ≡ 0
   unfolding ahead
-  at-end h k = end-good w.dx w.dy (apart s.x w.x) (apart s.y w.y) (omega arith) (omega arith)
+  at-end h k = end-good w.dx w.dy (abs_diff s.x w.x) (abs_diff s.y w.y) (omega arith) (omega arith)
 
   pub not_end : (s.x ≡ w.x → s.y ≡ w.y → ⊥) → Steps w s
   unfolding ahead

@@ -5,7 +5,8 @@ use borrow.Author.Tests.{lt-leb}
 use lib.IntN.{sub_ℕ}
 use lib.Signed.{le_z, lt_z}
 use Rattle.floats.specs.Whole.{at_least0}
-use Rattle.canvas.specs.Clip.{larger, smaller, shared}
+use Rattle.std.specs.Int.{int_min, int_max}
+use Rattle.canvas.specs.Clip.{shared}
 use Rattle.canvas.specs.Walk.{lifted}
 use Rattle.canvas.proofs.span.Spans.{same_leb}
 
@@ -97,19 +98,19 @@ extent-sub m k = go (sign m k)
     go (plus h) = ap at_least0 (sub_pos m k h)
 
 module _ (p q k : ℕ) where
-  larger-sub : larger (sub_ℕ p k) (sub_ℕ q k) ≡ sub_ℕ (max p q) k
+  larger-sub : int_max (sub_ℕ p k) (sub_ℕ q k) ≡ sub_ℕ (max p q) k
   larger-sub = go (dec_le p q)
     where
-      go : Dec (p ≤ q) → larger (sub_ℕ p k) (sub_ℕ q k) ≡ sub_ℕ (max p q) k
-      go (yes h) = rw (sub_leZ p k q k, le-leb (p + k) (q + k) (omega arith)) (sub-eq q k (max p q) k (omega arith))
-      go (no h) = rw (sub_leZ p k q k, lt-leb (p + k) (q + k) (omega arith)) (sub-eq p k (max p q) k (omega arith))
+      go : Dec (p ≤ q) → int_max (sub_ℕ p k) (sub_ℕ q k) ≡ sub_ℕ (max p q) k
+      go (yes h) = rw (sub_ltZ q k p k, le-ltb (q + k) (p + k) (omega arith)) (sub-eq q k (max p q) k (omega arith))
+      go (no h) = rw (sub_ltZ q k p k, lt-ltb (q + k) (p + k) (omega arith)) (sub-eq p k (max p q) k (omega arith))
 
-  smaller-sub : smaller (sub_ℕ p k) (sub_ℕ q k) ≡ sub_ℕ (min p q) k
+  smaller-sub : int_min (sub_ℕ p k) (sub_ℕ q k) ≡ sub_ℕ (min p q) k
   smaller-sub = go (dec_le p q)
     where
-      go : Dec (p ≤ q) → smaller (sub_ℕ p k) (sub_ℕ q k) ≡ sub_ℕ (min p q) k
-      go (yes h) = rw (sub_leZ p k q k, le-leb (p + k) (q + k) (omega arith)) (sub-eq p k (min p q) k (omega arith))
-      go (no h) = rw (sub_leZ p k q k, lt-leb (p + k) (q + k) (omega arith)) (sub-eq q k (min p q) k (omega arith))
+      go : Dec (p ≤ q) → int_min (sub_ℕ p k) (sub_ℕ q k) ≡ sub_ℕ (min p q) k
+      go (yes h) = rw (sub_ltZ q k p k, le-ltb (q + k) (p + k) (omega arith)) (sub-eq p k (min p q) k (omega arith))
+      go (no h) = rw (sub_ltZ q k p k, lt-ltb (q + k) (p + k) (omega arith)) (sub-eq q k (min p q) k (omega arith))
 
 pub lifted-sub : (a : ℤ) → SFits w32 a → a ≡ sub_ℕ (lifted a) 2147483648
 unfolding lifted
@@ -125,8 +126,8 @@ pub shared-lifted : (a b : ℤ) (m n : ℕ) → SFits w32 a → SFits w32 b → 
 unfolding shared
 shared-lifted a b m n sa sb =
     ap₂ (λ (x y : ℤ). at_least0 (x -ℤ y))
-    (ap₂ smaller (moved a m sa) (moved b n sb) ∙ smaller-sub (lifted a + m) (lifted b + n) 2147483648)
-    (ap₂ larger (lifted-sub a sa) (lifted-sub b sb) ∙ larger-sub (lifted a) (lifted b) 2147483648)
+    (ap₂ int_min (moved a m sa) (moved b n sb) ∙ smaller-sub (lifted a + m) (lifted b + n) 2147483648)
+    (ap₂ int_max (lifted-sub a sa) (lifted-sub b sb) ∙ larger-sub (lifted a) (lifted b) 2147483648)
     ∙ ap at_least0 (sub-sub (min (lifted a + m) (lifted b + n)) 2147483648 (max (lifted a) (lifted b)) 2147483648)
     ∙ extent-sub (min (lifted a + m) (lifted b + n) + 2147483648) (2147483648 + max (lifted a) (lifted b))
     ∙ omega arith

@@ -1,5 +1,5 @@
 -- Signed numbers of 32 bits: wider, above the least one, and back.
-use Rattle.std.proofs.Common.{◌≡◌, ℕ, suc, ◌+◌, ◌-◌, ◌<◌, ◌≤◌, ℤ, pos, negsuc, ◌+ℤ◌, refl, ap, ◌∙◌, arith, w32, w64, SFits, to_z, of_z, le-ltb, lt-ltb}
+use Rattle.std.proofs.Common.{◌≡◌, ℕ, ◌+◌, ◌-◌, ◌%◌, ◌^◌, ◌<◌, ◌≤◌, ℤ, pos, negsuc, refl, ap, ◌∙◌, arith, w32, w64, SFits, to_z, of_z, le-ltb, lt-ltb}
 use mir.ValLaws.{to_z-of_z}
 use Rattle.canvas.specs.Walk.{lifted, lowered}
 
@@ -7,23 +7,19 @@ pub wider : (z : ℤ) → SFits w32 z → SFits w64 z
 wider (pos n) h = record { sfits = omega arith }
 wider (negsuc n) h = record { sfits = omega arith }
 
-pub shift : (z : ℤ) → SFits w32 z → z +ℤ pos 2147483648 ≡ pos (lifted z)
+around : (z : ℤ) → SFits w32 z → (2147483648 + of_z w64 z) % 2 ^ 64 ≡ lifted z
 unfolding lifted
-shift (pos n) h = ap pos (omega arith)
-shift (negsuc n) h = rw (le-ltb 2147483648 (suc n) (omega arith)) (ap pos (omega arith))
+around (pos n) h = omega arith
+around (negsuc n) h = omega arith
 
 pub lifted-lt : (z : ℤ) → SFits w32 z → lifted z < 4294967296
 unfolding lifted
 lifted-lt (pos n) h = omega arith
 lifted-lt (negsuc n) h = omega arith
 
-pub fits_sum : (z : ℤ) → SFits w32 z → SFits w64 (z +ℤ pos 2147483648)
-fits_sum z h = rw (shift z h) (record { sfits = omega (arith, lifted-lt z h) })
-
--- what `raised` answers
-module _ (z r : ℤ) (h : SFits w32 z) (e : r ≡ to_z w32 (of_z w32 z) +ℤ pos 2147483648) where
-  pub raised_is : to_z w64 (of_z w64 r) ≡ pos (lifted z)
-  raised_is = let k : r ≡ z +ℤ pos 2147483648 = rw (to_z-of_z w32 z h) at e in rw (k, to_z-of_z w64 (z +ℤ pos 2147483648) (fits_sum z h)) (shift z h)
+-- what `lift` adds arrives through the types of 64 bits
+pub raised_is : (z : ℤ) → SFits w32 z → (2147483648 + of_z w64 (to_z w64 (of_z w64 (to_z w32 (of_z w32 z))))) % 2 ^ 64 ≡ lifted z
+raised_is z h = rw (to_z-of_z w32 z h, to_z-of_z w64 z (wider z h)) (around z h)
 
 pub lower_lift : (x : ℤ) → SFits w32 x → lowered (lifted x) ≡ x
 unfolding lowered lifted

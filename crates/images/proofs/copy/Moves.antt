@@ -146,7 +146,8 @@ pub record Moved (v : Canvas) (b₀ : List ℕ) (x y sx sy n : ℕ) (right : Boo
   pub few : k ≤ n
   pub same : b ≡ paint v (marks (shifted v b₀ x y sx sy) (run (x + from_end right n k) k) y) b₀
 
-module _ (v : Canvas) (b₀ : List ℕ) (s : Screen v b₀) (x y sx sy n : ℕ) (wide : x + n ≤ v.width) (source : sx + n ≤ v.width) (down : y < v.height) (sdown : sy < v.height) (right : Bool) (way : Way x sx right) where
+module _ (v : Canvas) (b₀ : List ℕ) (s : Screen v b₀) (x y sx sy n : ℕ)
+    (wide : x + n ≤ v.width) (source : sx + n ≤ v.width) (down : y < v.height) (sdown : sy < v.height) (right : Bool) (way : Way x sx right) where
   abbrev ink : ℕ → ℕ → ℕ → ℕ
   ink = shifted v b₀ x y sx sy
 
@@ -218,7 +219,8 @@ pub record Rows (v : Canvas) (b₀ : List ℕ) (x y sx sy n m : ℕ) (below : Bo
   pub few : k ≤ m
   pub same : b ≡ paint v (field (shifted v b₀ x y sx sy) (run x n) (run (y + from_end below m k) k)) b₀
 
-module _ (v : Canvas) (b₀ : List ℕ) (s : Screen v b₀) (x y sx sy n m : ℕ) (wide : x + n ≤ v.width) (source : sx + n ≤ v.width) (high : y + m ≤ v.height) (deep : sy + m ≤ v.height) (below : Bool) (way : Way y sy below) where
+module _ (v : Canvas) (b₀ : List ℕ) (s : Screen v b₀) (x y sx sy n m : ℕ)
+    (wide : x + n ≤ v.width) (source : sx + n ≤ v.width) (high : y + m ≤ v.height) (deep : sy + m ≤ v.height) (below : Bool) (way : Way y sy below) where
   abbrev inks : ℕ → ℕ → ℕ → ℕ
   inks = shifted v b₀ x y sx sy
 
@@ -267,7 +269,8 @@ module _ (v : Canvas) (b₀ : List ℕ) (s : Screen v b₀) (x y sx sy n m : ℕ
       single : marks inks (run x n) (y + at) ≡ field inks (run x n) (run (y + at) 1)
       single = one_row (marks inks (run x n)) (y + at)
 
-      joined : paint v (field inks (run x n) (run (y + at) 1)) (paint v (field inks (run x n) (run (y + from_end below m k) k)) b₀) ≡ paint v (field inks (run x n) (run (y + from_end below m (k + 1)) (k + 1))) b₀
+      joined : paint v (field inks (run x n) (run (y + at) 1)) (paint v (field inks (run x n) (run (y + from_end below m k) k)) b₀)
+          ≡ paint v (field inks (run x n) (run (y + from_end below m (k + 1)) (k + 1))) b₀
       joined =
           grown v inks (λ i j w r. shifted-lt v b₀ s.bytes x y sx sy i j w r) (marks inks (run x n)) b₀ s y m below k 1 at l e
           (box_by (y + at) 1 (omega (arith, end))) (box_by (y + from_end below m k) k (omega (arith, begin)))

@@ -6,9 +6,9 @@ pub returns : goal.returns
 returns c =
     let a = c.args in
     clip-is a.self a.other _ _ _ _ (corner a.self.x a.other.x (record { sfits = c.struct_told-1.given.0.1 })
-    (record { sfits = c.struct_told-2-1.given.0.1 }) _ c.larger_of.ensures)
+    (record { sfits = c.struct_told-2-1.given.0.1 }) _ c.max.ensures.value)
     (corner a.self.y a.other.y (record { sfits = c.struct_told-3-1.given.1.0.1 })
-    (record { sfits = c.struct_told-4-1.given.1.0.1 }) _ c.larger_of-2.ensures)
+    (record { sfits = c.struct_told-4-1.given.1.0.1 }) _ c.max-2.ensures.value)
     (extent-shared a.self.x a.other.x (record { sfits = c.struct_told-1.given.0.1 })
     (record { sfits = c.struct_told-2-1.given.0.1 }) _ _ _ c.shared_by.ensures)
     (extent-shared a.self.y a.other.y (record { sfits = c.struct_told-3-1.given.1.0.1 })

@@ -11,8 +11,8 @@ overflow_add-result c =
         x2 = record { sfits = c.struct_told-1.given.1.1.0.1 };
         y2 = record { sfits = c.struct_told-1.given.1.1.1.0.1 };
       }) c.lift-x.result c.lift-y.result c.lift.result c.lift-2.result
-          c.distance-dx.result c.distance-dy.result c.lift-x.ensures c.lift-y.ensures c.lift.ensures c.lift-2.ensures
-          c.distance-dx.ensures c.distance-dy.ensures;
+          c.abs_diff-dx.result c.abs_diff-dy.result c.lift-x.ensures c.lift-y.ensures c.lift.ensures c.lift-2.ensures
+          c.abs_diff-dx.ensures c.abs_diff-dy.ensures;
     }
 
 pub returns : goal.returns
@@ -23,8 +23,8 @@ returns c = (
     x2 = record { sfits = c.struct_told-1.given.1.1.0.1 };
     y2 = record { sfits = c.struct_told-1.given.1.1.1.0.1 };
   }) c.lift-x.result c.lift-y.result c.lift.result c.lift-2.result
-      c.distance-dx.result c.distance-dy.result c.lift-x.ensures c.lift-y.ensures c.lift.ensures c.lift-2.ensures
-      c.distance-dx.ensures c.distance-dy.ensures,
+      c.abs_diff-dx.result c.abs_diff-dy.result c.lift-x.ensures c.lift-y.ensures c.lift.ensures c.lift-2.ensures
+      c.abs_diff-dx.ensures c.abs_diff-dy.ensures,
   sets c.args.s
       (record {
         x1 = record { sfits = c.struct_told-1.given.0.1 };

@@ -10,5 +10,5 @@ returns c =
       x2 = record { sfits = c.struct_told-1.given.1.1.0.1 };
       y2 = record { sfits = c.struct_told-1.given.1.1.1.0.1 };
     }) c.lift-x1.result c.lift-y1.result c.lift-x.result c.lift-y.result
-    c.distance.result c.distance-2.result c.lift-x1.ensures c.lift-y1.ensures c.lift-x.ensures c.lift-y.ensures c.distance.ensures
-    c.distance-2.ensures
+    c.abs_diff.result c.abs_diff-2.result c.lift-x1.ensures c.lift-y1.ensures c.lift-x.ensures c.lift-y.ensures c.abs_diff.ensures
+    c.abs_diff-2.ensures

@@ -7,6 +7,6 @@ pub returns-then-on_side : goal.returns-then-on_side
 unfolding on_canvas
 returns-then-on_side c = rw (← c.on_side.ensures, c.if-on_side.true) c.on_side-then-on_side.ensures
 
-pub returns : goal.returns
+pub returns-else-on_side : goal.returns-else-on_side
 unfolding on_canvas
-returns c = rw (← c.on_side.ensures, c.if-on_side.false) refl
+returns-else-on_side c = rw (← c.on_side.ensures, c.if-on_side.false) refl

@@ -10,4 +10,4 @@ overflow_add-u c =
 
 pub returns : goal.returns
 returns c =
-    is_overlap c.args.c _ _ _ _ c.ranges.c c.lift-u.ensures _ _ _ _ c.most.ensures c.least-end.ensures c.side_between.ensures
+    is_overlap c.args.c _ _ _ _ c.ranges.c c.lift-u.ensures _ _ _ _ c.max.ensures c.min-end.ensures c.side_between.ensures

@@ -11,16 +11,6 @@ overflow_add-u c = record { fits = omega (arith, c.lift-u.ensures, lifted-lt (to
 pub overflow_add-v : goal.overflow_add-v
 overflow_add-v c = record { fits = omega (arith, c.lift-v.ensures, lifted-lt (to_z w32 (of_z w32 c.args.b)) (to_z-Fits w32 (of_z w32 c.args.b) (of_z_fits w32 c.args.b c.ranges.b))) }
 
-pub returns-then-end-start : goal.returns-then-end-start
-returns-then-end-start c =
-    let a = c.args in
-    rw (
-      shared-lifted a.a a.b a.m a.n c.ranges.a c.ranges.b,
-      ← lift_is a.a _ c.ranges.a c.lift-u.ensures,
-      ← lift_is
-          a.b _ c.ranges.b c.lift-v.ensures,
-    ) (omega (arith, c.least-end.ensures, c.most-start.ensures))
-
 pub returns : goal.returns
 returns c =
     let a = c.args in
@@ -29,4 +19,4 @@ returns c =
       ← lift_is a.a _ c.ranges.a c.lift-u.ensures,
       ← lift_is
           a.b _ c.ranges.b c.lift-v.ensures,
-    ) (omega (arith, c.least-end.ensures, c.most-start.ensures))
+    ) (omega (arith, c.min-end.ensures, c.max-start.ensures, c.saturating_sub.ensures))

@@ -10,6 +10,6 @@ overflow_add-u c =
 
 pub returns : goal.returns
 returns c =
-    is-shown c.args.c _ _ _ _ c.ranges.c c.lift-u.ensures c.args.p c.args.s _ _ _ _ _ _ _ refl c.most.ensures
-    (rw c.less.ensures at c.most-from.ensures) c.least-end.ensures (rw c.less-2.ensures at c.least.ensures)
+    is-shown c.args.c _ _ _ _ c.ranges.c c.lift-u.ensures c.args.p c.args.s _ _ _ _ _ _ _ refl c.max.ensures
+    (rw c.saturating_sub.ensures at c.max-from.ensures) c.min-end.ensures (rw c.saturating_sub-2.ensures at c.min.ensures)
     c.side_between.ensures

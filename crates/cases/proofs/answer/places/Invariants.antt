@@ -1,11 +1,8 @@
 -- `places` takes digits off while there are two or more left.
 use mathlib.Core.Path.{◌≡◌}
-use Prim.Native.Nat.{◌≤◌, ◌-◌, ◌+◌}
+use Prim.Native.Nat.{◌-◌, ◌+◌}
 use Rattle.cases.specs.Answer.{places}
 use Rattle.cases.proofs.answer.places.Given as goal
 
 abbrev pub invariant-loop-k : goal.invariant-loop-k
-invariant-loop-k l = (l.k ≤ 20) × (places l.base 19 l.n + 1 ≡ l.k + places l.base (20 - l.k) l.rest)
-
-abbrev pub decreases-loop-k : goal.decreases-loop-k
-decreases-loop-k l = 20 - l.k
+invariant-loop-k l = places l.base 19 l.n + 1 ≡ l.k + places l.base (20 - l.k) l.rest

@@ -15,6 +15,6 @@ returns c =
     let put-field = c.put_field-b in
     let put-found = c.put_found-c in
     let put-hash = c.put_hash in
-    let status = wrote _ _ a.out.now put-number.new.out put-field.new.out 0 put-number.result put-field.result put-number.ensures.wrote put-field.ensures.wrote in
+    let status = wrote _ _ a.out.now put-number.new.out put-field.new.out 0 put-number.result put-field.result put-number.ensures.wrote (rw c.from.ensures at put-field.ensures.wrote) in
     let found = wrote _ _ a.out.now put-field.new.out put-found.new.out 0 put-field.result put-found.result status put-found.ensures.wrote in
     written a.answer a.out.now put-hash.new.out put-hash.result c.if-out-lt144.false (wrote _ _ a.out.now put-found.new.out put-hash.new.out 0 put-found.result put-hash.result found put-hash.ensures)

@@ -1,26 +1,22 @@
 -- `held` compares the area with the room divided by a pixel's size, so that no product can wrap.
 use native.Mathlib.Omega.{arith}
-use Rattle.cases.proofs.Cases.{held_none, held-over, held-is, area_fits, product_fits}
-use borrow.Author.Rules.{rules}
+use Rattle.cases.proofs.Cases.{no_format, too_big, held_is, product_fits}
 use Rattle.cases.proofs.case.held.Goals as goal
 
-pub returns-then-n-eq0 : goal.returns-then-n-eq0
-returns-then-n-eq0 c =
+pub returns-then-size-eq0 : goal.returns-then-size-eq0
+returns-then-size-eq0 c =
     let a = c.args in
-    held_none a.room c.bytes_per_pixel-n.result a.format a.row a.height c.bytes_per_pixel-n.ensures c.if-n-eq0.true
+    no_format a.room c.bytes_per_pixel-size.result a.format a.row a.height c.bytes_per_pixel-size.ensures c.if-size-eq0.true
 
-pub overflow_mul-area : goal.overflow_mul-area
-overflow_mul-area c = record { fits = area_fits _ _ (search rules) (search rules) }
-
-pub returns-then-room-n : goal.returns-then-room-n
-returns-then-room-n c =
+pub returns-then-room-size : goal.returns-then-room-size
+returns-then-room-size c =
     let a = c.args in
-    held-over a.room c.bytes_per_pixel-n.result a.format a.row a.height c.bytes_per_pixel-n.ensures c.if-n-eq0.false c.if-room-n.true
+    too_big a.room c.bytes_per_pixel-size.result a.format a.row a.height c.bytes_per_pixel-size.ensures c.if-size-eq0.false c.if-room-size.true
 
 pub overflow_mul-result : goal.overflow_mul-result
-overflow_mul-result c = omega (arith, product_fits _ c.args.room c.bytes_per_pixel-n.result c.if-n-eq0.false c.if-room-n.false)
+overflow_mul-result c = omega (arith, product_fits _ c.args.room c.bytes_per_pixel-size.result c.if-size-eq0.false c.if-room-size.false)
 
 pub returns : goal.returns
 returns c =
     let a = c.args in
-    held-is a.room c.bytes_per_pixel-n.result a.format a.row a.height c.bytes_per_pixel-n.ensures c.if-n-eq0.false
+    held_is a.room c.bytes_per_pixel-size.result a.format a.row a.height c.bytes_per_pixel-size.ensures c.if-size-eq0.false c.if-room-size.false

@@ -1,17 +1,16 @@
--- `read_named` reads a number behind the name, and takes nothing where there is none.
-use Rattle.cases.proofs.Named.{with_name, without_name}
+-- `read_named` takes a word of the name, and no other.
+use Rattle.cases.proofs.Numbers.{no_named, is_named, is_other}
 use Rattle.cases.proofs.number.read_named.Goals as goal
 
-pub returns-then-n-line : goal.returns-then-n-line
-returns-then-n-line c =
-    let a = c.args in
-    let p = c.past-from in
-    let n = c.read_number-n in
-    with_name a.name.now a.line.now a.at p.result a.absent n.result.value n.result.next p.ensures n.ensures.result_value c.if-n-line.true
+pub returns-in_default : goal.returns-in_default
+returns-in_default c = no_named c.args.name.now c.args.absent c.args.left c.in_default.ensures
 
-pub returns : goal.returns
-returns c =
-    let a = c.args in
-    let p = c.past-from in
-    let n = c.read_number-n in
-    without_name a.name.now a.line.now a.at p.result a.absent n.result.value n.result.next p.ensures n.ensures.result_value c.if-n-line.false
+pub returns-in-Some-named : goal.returns-in-Some-named
+returns-in-Some-named c =
+    let w = c.in-Some in
+    is_named c.args.name.now c.args.absent c.args.left w.after w.word.now w.ensures c.in-Some-named.n c.in-Some-named.ensures
+
+pub returns-in-None : goal.returns-in-None
+returns-in-None c =
+    let w = c.in-Some in
+    is_other c.args.name.now c.args.absent c.args.left w.after w.word.now w.ensures c.in-None.ensures

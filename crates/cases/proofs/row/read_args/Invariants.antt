@@ -1,12 +1,10 @@
--- `read_args` takes the kinds one by one: those left, from here, lead where all lead from the start.
+-- The arguments still to come, from those so far, are all.
 use mathlib.Core.Path.{◌≡◌}
-use Prim.Native.Nat.{◌≤◌, ◌-◌}
-use Rattle.cases.specs.Place.{left_at, read_args, kinds_in, Within}
-use Rattle.cases.specs.Row.{args_from, args_of}
+use lib.ListN.{drop}
+use Rattle.cases.specs.Line.{got}
+use Rattle.cases.specs.Row.{args_of, args_from}
+use Rattle.cases.specs.Place.{left_of, taken}
 use Rattle.cases.proofs.row.read_args.Given as goal
 
 abbrev pub invariant-loop-i : goal.invariant-loop-i
-invariant-loop-i l = (l.i ≤ 16) × (args_of (kinds_in 16 l.kinds) (left_at l.line l.at) ≡ args_from l.i (kinds_in (16 - l.i) l.rest) (read_args l.line l.a)) × Within l.line l.a.seed
-
-abbrev pub decreases-loop-i : goal.decreases-loop-i
-decreases-loop-i l = 16 - l.i
+invariant-loop-i l = args_from l.i (drop l.i l.kinds) (got (taken l.args) (left_of l.left)) ≡ args_of l.kinds (left_of l.fn.left)

@@ -1,27 +1,35 @@
--- `take` reads by the kind.
-use Rattle.cases.proofs.Rows.{seed-taken, file_taken, number-taken}
+-- An argument by its kind.
+use Rattle.cases.specs.Line.{got}
+use Rattle.cases.specs.Place.{taken, left_of}
+use Rattle.cases.specs.Row.{arg_of, seeded, numbered}
+use Rattle.cases.proofs.Rows.{other_arg}
 use Rattle.cases.proofs.row.take.Goals as goal
 
-pub returns-then-kind-eq13 : goal.returns-then-kind-eq13
-returns-then-kind-eq13 c =
-    let a = c.args in
-    let s = c.read_seed-s in
-    record { result_value = seed-taken a.line.now a.i a.kind a.a c.if-kind-eq13.true s.result s.ensures.result_value; within_2 = s.ensures.within }
+pub returns-in_err-seed-in-Seed : goal.returns-in_err-seed-in-Seed
+unfolding arg_of seeded
+returns-in_err-seed-in-Seed c = rw (c.from_residual.ensures, c.in-Seed.is) c.in_err-seed-in-Seed.ensures
 
-pub returns-then-kind-eq15 : goal.returns-then-kind-eq15
-returns-then-kind-eq15 c =
-    let a = c.args in
-    let s = c.read_file-s in
-    record {
-      result_value = file_taken a.line.now a.i a.kind a.a c.if-kind-eq13.false c.if-kind-eq15.true s.result s.ensures.result_value;
-      within_2 = s.ensures.within;
-    }
+pub returns-in_err-seed-in-File : goal.returns-in_err-seed-in-File
+unfolding arg_of seeded
+returns-in_err-seed-in-File c = rw (c.from_residual-in_err-seed-in-File.ensures, c.in-File.is) c.in_err-seed-in-File.ensures
 
-pub returns : goal.returns
-returns c =
+pub returns-in_err-n-in_default : goal.returns-in_err-n-in_default
+unfolding numbered
+returns-in_err-n-in_default c =
     let a = c.args in
-    let n = c.read_word-n in
-    record {
-      result_value = number-taken a.line.now a.i a.kind a.a c.if-kind-eq13.false c.if-kind-eq15.false n.result n.ensures;
-      within_2 = c.requires.within;
-    }
+    rw (c.from_residual-in_err-n-in_default.ensures, other_arg a.i a.kind (got (taken a.args) (left_of a.left)) c.in_default.not-Seed c.in_default.not-File)
+    c.in_err-n-in_default.ensures
+
+pub returns-in_ok-seed-in-Seed : goal.returns-in_ok-seed-in-Seed
+unfolding arg_of seeded
+returns-in_ok-seed-in-Seed c = rw (c.in-Seed.is, c.in_ok-seed-in-Seed.ensures)
+
+pub returns-in_ok-seed-in-File : goal.returns-in_ok-seed-in-File
+unfolding arg_of seeded
+returns-in_ok-seed-in-File c = rw (c.in-File.is, c.in_ok-seed-in-File.ensures)
+
+pub returns-in_ok-n-in_default : goal.returns-in_ok-n-in_default
+unfolding numbered
+returns-in_ok-n-in_default c =
+    let a = c.args in
+    rw (other_arg a.i a.kind (got (taken a.args) (left_of a.left)) c.in_default.not-Seed c.in_default.not-File, c.in_ok-n-in_default.ensures)

@@ -1,12 +1,10 @@
--- `decode` fills from the front, two digits for each byte.
+-- The bytes so far, and the digits still to come.
 use mathlib.Core.Path.{◌≡◌}
-use Prim.Native.Nat.{◌≤◌, ◌-◌}
-use lib.ListN.{length, take}
+use mathlib.Core.List.{◌++◌}
+use Prim.Native.Nat.{◌*◌}
+use lib.ListN.{take, drop}
 use Rattle.cases.specs.Place.{pairs}
 use Rattle.cases.proofs.seed.decode.Given as goal
 
 abbrev pub invariant-loop-i : goal.invariant-loop-i
-invariant-loop-i l = (length l.initial.bytes ≡ length l.bytes) × (l.i ≤ length l.initial.bytes) × (take l.i l.bytes ≡ pairs l.line l.from l.i)
-
-abbrev pub decreases-loop-i : goal.decreases-loop-i
-decreases-loop-i l = length l.initial.bytes - l.i
+invariant-loop-i l = take l.i l.bytes ++ pairs (drop (2 * l.i) l.digits) ≡ pairs l.digits

@@ -1,46 +1,34 @@
--- `read_file` reads a minus, or hex of a byte at least.
-use mathlib.Core.Path.{◌∙◌}
-use native.Mathlib.Omega.{arith}
-use Rattle.cases.specs.Seed.{counted}
-use Rattle.cases.specs.Place.{sown, pairs, Within}
-use Rattle.cases.proofs.Reading.{losing}
-use Rattle.cases.proofs.Seeds.{no_file, a-file, no_letter, no_word, some_word}
+-- A file by its word: a minus, or hex of a byte at least.
+use mathlib.Core.Path.{sym, ◌∙◌}
+use borrow.Author.Tests.{eqb-true, eqb-false}
+use Rattle.cases.specs.Place.{pairs}
+use Rattle.cases.proofs.Seeds.{no_file, is_word, is_not, is_none, empty_file, file_lost, file_read}
 use Rattle.cases.proofs.seed.read_file.Goals as goal
 
-pub returns-then-m-eq45 : goal.returns-then-m-eq45
-unfolding sown pairs Within
-returns-then-m-eq45 c =
-    let a = c.args in
-    let m = c.read_name-m in
-    record { result_value = no_file a.line.now a.at m.result.letters m.result.next m.ensures c.if-m-eq45.true; within = omega arith }
+pub returns-in_err-word : goal.returns-in_err-word
+returns-in_err-word c = rw c.from_residual.ensures (no_file c.args.left c.in_err-word.ensures)
 
-pub returns-then-line-at : goal.returns-then-line-at
-unfolding sown Within
-returns-then-line-at c =
-    let a = c.args in
-    let m = c.read_name-m in
-    record {
-      result_value = losing (counted 0) a.line.now (no_letter a.line.now a.at c.if-line-at.true) ∙ a-file a.line.now a.at m.result.letters m.result.next m.ensures c.if-m-eq45.false;
-      within = tt;
-    }
+pub returns-then-eq : goal.returns-then-eq
+unfolding pairs
+returns-then-eq c =
+    let w = c.in_ok-word in
+    is_none c.args.left w.left w.word.now w.ensures (is_word 45 w.word.now c.eq.ensures c.as_slice.ensures c.if-eq.true)
 
-pub returns-then-line-at-eq32 : goal.returns-then-line-at-eq32
-unfolding sown Within
-returns-then-line-at-eq32 c =
-    let a = c.args in
-    let m = c.read_name-m in
-    record {
-      result_value = losing (counted 0) a.line.now (no_word a.line.now a.at c.if-line-at.false c.if-line-at-eq32.true)
-          ∙ a-file a.line.now a.at m.result.letters m.result.next m.ensures c.if-m-eq45.false;
-      within = tt;
-    }
+pub returns-then-is_empty : goal.returns-then-is_empty
+returns-then-is_empty c =
+    let w = c.in_ok-word in
+    empty_file c.args.left w.left w.word.now w.ensures (is_not 45 w.word.now c.eq.ensures c.as_slice.ensures c.if-eq.false)
+    (eqb-true _ 0 (sym c.is_empty.ensures ∙ c.if-is_empty.true))
+
+pub returns-in_err-hex : goal.returns-in_err-hex
+returns-in_err-hex c =
+    let w = c.in_ok-word in
+    rw c.from_residual-in_err-hex.ensures
+    (file_lost c.args.left w.left w.word.now w.ensures (is_not 45 w.word.now c.eq.ensures c.as_slice.ensures c.if-eq.false)
+    (eqb-false _ 0 (sym c.is_empty.ensures ∙ c.if-is_empty.false)) c.in_err-hex.ensures)
 
 pub returns : goal.returns
 returns c =
-    let a = c.args in
-    let m = c.read_name-m in
-    record {
-      result_value = c.read_hex.ensures.result_value ∙ some_word a.line.now a.at c.if-line-at.false c.if-line-at-eq32.false
-          ∙ a-file a.line.now a.at m.result.letters m.result.next m.ensures c.if-m-eq45.false;
-      within = c.read_hex.ensures.within;
-    }
+    let w = c.in_ok-word in
+    file_read c.args.left w.left w.word.now w.ensures (is_not 45 w.word.now c.eq.ensures c.as_slice.ensures c.if-eq.false)
+    (eqb-false _ 0 (sym c.is_empty.ensures ∙ c.if-is_empty.false)) _ c.in_ok-hex.ensures

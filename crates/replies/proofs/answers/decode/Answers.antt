@@ -7,16 +7,14 @@ use Rattle.replies.proofs.Answered.{decoded-is}
 use borrow.Author.Rules.{rules}
 use Rattle.replies.proofs.answers.decode.Goals as goal
 
-pub overflow_mul-s : goal.overflow_mul-s
-overflow_mul-s c = record { fits = area_fits _ _ (search rules) (search rules) }
+pub overflow_mul-image : goal.overflow_mul-image
+overflow_mul-image c = record { fits = area_fits _ _ (search rules) (search rules) }
 
 pub slice_bounds-hash_words-end-2 : goal.slice_bounds-hash_words-end-2
-slice_bounds-hash_words-end-2 c = sym (length-take-le _ _ (omega (arith, c.least-n.ensures)))
+slice_bounds-hash_words-end-2 c = sym (length-take-le _ _ (omega (arith, c.min-n.ensures)))
 
 pub returns : goal.returns
 returns c =
     let decode_lbmp = c.decode_lbmp in
-    let judged = c.judged-s in
-    let least = c.least-n in
     let a = c.args in
-    decoded-is a.file.now a.words.now decode_lbmp.result decode_lbmp.ensures judged.ensures least.ensures c.hash_words.ensures
+    decoded-is a.file.now a.words.now decode_lbmp.result decode_lbmp.ensures c.judged-status.ensures c.min-n.ensures c.hash_words.ensures

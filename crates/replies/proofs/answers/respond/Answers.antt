@@ -13,7 +13,7 @@ pub returns-in-6776180 : goal.returns-in-6776180
 unfolding respond_by
 returns-in-6776180 c =
     let word = c.word in
-    let sized = c.sized-v in
+    let sized = c.canvas-v in
     let a = c.args in
     respond_is a.c a.bytes.now a.image.now a.words.now word.ensures sized.ensures
     (rw c.in-6776180.is (ap (λ (r : Answer). response r a.bytes.now a.words.now) c.get.ensures))
@@ -22,7 +22,7 @@ pub returns-in-1818389872 : goal.returns-in-1818389872
 unfolding respond_by
 returns-in-1818389872 c =
     let word = c.word in
-    let sized = c.sized-v in
+    let sized = c.canvas-v in
     let word2 = c.word-in-1818389872 in
     let bitmap = c.bitmap in
     let a = c.args in
@@ -33,14 +33,14 @@ pub returns-in-7497075 : goal.returns-in-7497075
 unfolding respond_by
 returns-in-7497075 c =
     let a = c.args in
-    respond_is a.c a.bytes.now a.image.now a.words.now c.word.ensures c.sized-v.ensures
+    respond_is a.c a.bytes.now a.image.now a.words.now c.word.ensures c.canvas-v.ensures
     (rw c.in-7497075.is (ap (λ (r : Answer). response r a.bytes.now a.words.now) c.icon.ensures))
 
 pub returns-in_default : goal.returns-in_default
 unfolding respond_by
 returns-in_default c =
     let word = c.word in
-    let sized = c.sized-v in
+    let sized = c.canvas-v in
     let draw = c.draw in
     let a = c.args in
     let o = a.c.name in

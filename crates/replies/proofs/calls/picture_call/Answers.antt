@@ -1,51 +1,31 @@
 -- Each op is the call of its row, made with the numbers of the line.
 use mathlib.Core.Bool.{false}
-use mathlib.Core.Path.{◌∙◌, ap, refl}
+use mathlib.Core.Path.{refl}
 use borrow.Author.Tests.{ne_eqb}
 use Rattle.canvas.specs.Call.{call, draw, status_of, count_of}
 use Rattle.images.specs.Areas.{copy_area}
 use Rattle.cases.specs.Ops as op
 use Rattle.replies.specs.Numbers.{canvas_at}
 use Rattle.replies.specs.Calls.{picture_by}
-use mir.Syntax.{w32}
-use mir.Val.{to_z}
 use Rattle.replies.proofs.Ops.{named, reaches, made₆, copy_is, draw-is}
 use Rattle.replies.proofs.calls.picture_call.Goals as goal
 
 pub returns-in-1668247673 : goal.returns-in-1668247673
 returns-in-1668247673 c =
-    let int = c.int-x in
-    let int2 = c.int-y in
-    let signed = c.signed in
-    let word = c.word-w in
-    let signed2 = c.signed-in-1668247673 in
-    let word2 = c.word-h in
-    let word3 = c.word in
-    let word4 = c.word-in-1668247673 in
-    let copy-area = c.copy_area in
     let a = c.args in
-    named (λ o. picture_by o a.n a.v a.k a.image.now a.bytes.now) c.in-1668247673.is
-    (copy_is a.n a.v a.k a.image.now a.bytes.now)
-    (made₆ (λ x y z t w h. copy_area a.v x y z t w h a.k a.bytes.now) (reaches int.result int.type_inv int.ensures)
-    (reaches int2.result int2.type_inv int2.ensures) (reaches signed.result signed.type_inv (signed.ensures ∙ ap (to_z w32) word.ensures))
-    (reaches signed2.result signed2.type_inv (signed2.ensures ∙ ap (to_z w32) word2.ensures)) word3.ensures word4.ensures copy-area.ensures)
+    named (λ o. picture_by o a.n.words a.v a.k a.image.now a.bytes.now) c.in-1668247673.is (copy_is a.n.words a.v a.k a.image.now a.bytes.now)
+    (made₆ (λ x y z t w h. copy_area a.v x y z t w h a.k a.bytes.now)
+    (reaches _ c.int-x.type_inv c.int-x.ensures) (reaches _ c.int-y.type_inv c.int-y.ensures) (reaches _ c.int.type_inv c.int.ensures)
+    (reaches _ c.int-in-1668247673.type_inv c.int-in-1668247673.ensures)
+    c.word.ensures c.word-in-1668247673.ensures c.copy_area.ensures)
 
 pub returns-in-1685217655 : goal.returns-in-1685217655
 returns-in-1685217655 c =
-    let int = c.int-x in
-    let int2 = c.int-y in
-    let word = c.word-w in
-    let word2 = c.word-h in
-    let int3 = c.int in
-    let int4 = c.int-in-1685217655 in
-    let sized = c.sized-s in
-    let draw₁ = c.draw in
     let a = c.args in
-    named (λ o. picture_by o a.n a.v a.k a.image.now a.bytes.now) c.in-1685217655.is
-    (draw-is a.n a.v a.k a.image.now a.bytes.now)
-    (made₆ (λ x y w h i j. call a.v (draw x y w h (canvas_at a.n 4 8 false) a.image.now i j a.k) a.bytes.now)
-    (reaches int.result int.type_inv int.ensures) (reaches int2.result int2.type_inv int2.ensures) word.ensures word2.ensures
-    (reaches int3.result int3.type_inv int3.ensures) (reaches int4.result int4.type_inv int4.ensures) (rw sized.ensures at draw₁.ensures))
+    named (λ o. picture_by o a.n.words a.v a.k a.image.now a.bytes.now) c.in-1685217655.is (draw-is a.n.words a.v a.k a.image.now a.bytes.now)
+    (made₆ (λ x y w h i j. call a.v (draw x y w h (canvas_at a.n.words 4 8 false) a.image.now i j a.k) a.bytes.now)
+    (reaches _ c.int-x.type_inv c.int-x.ensures) (reaches _ c.int-y.type_inv c.int-y.ensures) c.word-w.ensures c.word-h.ensures
+    (reaches _ c.int-in-1685217655.type_inv c.int-in-1685217655.ensures) (reaches _ c.int-in-1685217655-2.type_inv c.int-in-1685217655-2.ensures) (rw c.canvas-s.ensures at c.draw.ensures))
 
 pub returns-in_default : goal.returns-in_default
 unfolding picture_by status_of count_of

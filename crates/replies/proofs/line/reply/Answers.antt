@@ -1,26 +1,36 @@
 -- The case of the line's text, and its reply.
 use mathlib.Core.Path.{sym}
 use native.Mathlib.Omega.{arith}
+use lib.ListN.{length}
+use Prim.Native.Nat.{◌≤◌}
 use lib.Seq.{length-take-le}
 use Rattle.cases.proofs.Cases.{case_fits}
-use Rattle.replies.proofs.Replies.{replied-is}
+use Rattle.replies.proofs.Replies.{refused-is, answered-is}
 use Rattle.replies.proofs.line.reply.Goals as goal
 
-pub slice_bounds-read-end : goal.slice_bounds-read-end
-slice_bounds-read-end c = sym (length-take-le _ _ c.text_of-n.ensures.0)
-
-pub reply_to-requires : goal.reply_to-requires
-reply_to-requires c =
-    let read = c.read-c in
+pub returns-in_default : goal.returns-in_default
+returns-in_default c =
     let a = c.args in
-    let f = case_fits a.bytes.now a.image.now _ read.ensures in
-    (omega (arith, f.0, read.auto.bytes), omega (arith, f.1, read.auto.image))
+    refused-is a.line.now a.bytes.now a.image.now a.words.now a.out.now (rw c.text_of.ensures at c.in_default.ensures) c.refuse.ensures
+
+pub slice_bounds-respond-end : goal.slice_bounds-respond-end
+slice_bounds-respond-end c = omega (arith, (case_fits c.args.bytes.now c.args.image.now _ c.in-Some.ensures).0, c.read.auto.bytes)
+
+pub slice_bounds-respond-end-2 : goal.slice_bounds-respond-end-2
+slice_bounds-respond-end-2 c =
+    let w : c.in-Some.case.bytes ≤ length c.read.new.bytes = omega (arith, (case_fits c.args.bytes.now c.args.image.now _ c.in-Some.ensures).0, c.read.auto.bytes) in
+    sym (length-take-le _ _ w)
+
+pub slice_bounds-respond-end-3 : goal.slice_bounds-respond-end-3
+slice_bounds-respond-end-3 c = omega (arith, (case_fits c.args.bytes.now c.args.image.now _ c.in-Some.ensures).1, c.read.auto.image)
+
+pub slice_bounds-respond-end-4 : goal.slice_bounds-respond-end-4
+slice_bounds-respond-end-4 c =
+    let w : c.in-Some.case.image ≤ length c.read.new.image = omega (arith, (case_fits c.args.bytes.now c.args.image.now _ c.in-Some.ensures).1, c.read.auto.image) in
+    sym (length-take-le _ _ w)
 
 pub returns : goal.returns
 returns c =
-    let text_of = c.text_of-n in
-    let read = c.read-c in
-    let reply-to = c.reply_to in
     let a = c.args in
-    replied-is text_of.result a.line.now a.bytes.now a.image.now a.words.now a.out.now text_of.ensures.1 read.ensures
-    reply-to.ensures
+    answered-is a.line.now a.bytes.now a.image.now a.words.now a.out.now c.in-Some.case (rw c.text_of.ensures at c.in-Some.ensures)
+    c.respond-answer.ensures c.write.ensures
