@@ -33,10 +33,7 @@ pub(crate) fn source_of(c: &[u32; 6]) -> Canvas
 fn bits(z: i32) -> u32
     ensures { result ≡ bits_of z }
 {
-    if z < 0 {
-        return (z as i64 + 4294967296) as u32;
-    }
-    z as u32
+    z.cast_unsigned()
 }
 
 pub(crate) fn clip_of(c: &[u32; 4]) -> Clip

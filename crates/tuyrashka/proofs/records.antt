@@ -1,2 +1,0 @@
--- The laws of words that are signed numbers.
-pub mod Signs
