@@ -3,8 +3,7 @@ ghost use Rattle.std.specs.Prelude.{◌≡◌, ◌≤◌, [], ◌∷◌};
 ghost use Rattle.words.specs.Ink.{inked};
 ghost use Rattle.canvas.specs.Plot.{at, plot, on_canvas};
 ghost use Rattle.canvas.specs.Call.{put_pixel, leaves, call};
-ghost use Rattle.pixels.specs.Bytes.{size, On, Sized};
-ghost use Rattle.pixels.specs.Hits.{hit, touch};
+ghost use Rattle.pixels.specs.Bytes.{size, Sized};
 ghost use Rattle.canvas.specs.Walk.{lowered, plus, work, covers, dabbed, Fields, Fits, Ready, Did};
 
 use crate::faults::judge;
@@ -32,18 +31,6 @@ fn is_covered(s: Span, p: u64) -> bool
     past < (s.to - s.from) as u64
 }
 
-// The word of a pixel, inked, by the bytes of a word.
-fn touch_by(canvas: Canvas, b: &mut [u8], n: usize, x: usize, y: usize, ink: Ink)
-    requires { (Sized canvas b.old) × ((On canvas x y) × (n ≡ size canvas)) }
-    ensures { b.new ≡ touch canvas b.old (hit (inked ink) x y) }
-{
-    match n {
-        1 => pixels::bytes::touch_by::<1>(canvas, b, x, y, ink),
-        2 => pixels::bytes::touch_by::<2>(canvas, b, x, y, ink),
-        _ => pixels::bytes::touch_by::<4>(canvas, b, x, y, ink),
-    }
-}
-
 // A plot at a lifted point that can land on some columns and rows alone. The bytes of a word, n, are a literal in each
 // caller, and the choice by them falls away where the compiler takes the caller's loop into its arms.
 pub fn dab(
@@ -68,7 +55,7 @@ pub fn dab(
     }
     let x = (p - ORIGIN) as usize;
     let y = (q - ORIGIN) as usize;
-    touch_by(canvas, b, n, x, y, ink);
+    pixels::bytes::touch_by(canvas, b, n, x, y, ink);
     landed_more(t, 1)
 }
 

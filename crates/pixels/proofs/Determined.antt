@@ -15,8 +15,8 @@ is_whole_determined κs a s s' r r' p q = p ∙ sym q
 load_at_determined : (κs : _) (a : _) (s s' : _) (r r' : _) → load_at.Post κs a r s → load_at.Post κs a r' s' → r ≡ r'
 load_at_determined κs a s s' r r' p q = p.0 ∙ sym q.0
 
-touch_by_determined : (n : _) (f : _) (κs : _) (a : _) (s s' : _) (r r' : _) → touch_by.Post n f κs a r s → touch_by.Post n f κs a r' s' → s.1.0.now ≡ s'.1.0.now
-touch_by_determined n f κs a s s' r r' p q = p ∙ sym q
+touch_by_determined : (κs : _) (a : _) (s s' : _) (r r' : _) → touch_by.Post κs a r s → touch_by.Post κs a r' s' → s.1.0.now ≡ s'.1.0.now
+touch_by_determined κs a s s' r r' p q = p ∙ sym q
 
 touch_at_determined : (κs : _) (a : _) (s s' : _) (r r' : _) → touch-at.Post κs a r s → touch-at.Post κs a r' s' → s.1.0.now ≡ s'.1.0.now
 touch_at_determined κs a s s' r r' p q = p ∙ sym q

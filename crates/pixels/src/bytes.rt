@@ -83,12 +83,17 @@ pub fn load_at(canvas: Canvas, b: &[u8], x: usize, y: usize) -> u32
     }
 }
 
-// The word of a pixel of N bytes, inked.
-pub fn touch_by<const N: usize>(canvas: Canvas, b: &mut [u8], x: usize, y: usize, ink: Ink)
-    requires { (Sized canvas b.old) × ((On canvas x y) × (N ≡ size canvas)) }
+// The word of a pixel, inked, by the bytes of a word.
+pub fn touch_by(canvas: Canvas, b: &mut [u8], n: usize, x: usize, y: usize, ink: Ink)
+    requires { (Sized canvas b.old) × ((On canvas x y) × (n ≡ size canvas)) }
     ensures { b.new ≡ touch canvas b.old (hit (inked ink) x y) }
 {
-    touch::<N>(b, index(canvas, x, y) * N, ink);
+    let o = index(canvas, x, y);
+    match n {
+        1 => touch::<1>(b, o, ink),
+        2 => touch::<2>(b, o * 2, ink),
+        _ => touch::<4>(b, o * 4, ink),
+    }
 }
 
 // The word of a pixel, inked.
@@ -97,8 +102,8 @@ pub fn touch_at(canvas: Canvas, b: &mut [u8], x: usize, y: usize, ink: Ink)
     ensures { b.new ≡ touch canvas b.old (hit (inked ink) x y) }
 {
     match canvas.format {
-        0 => touch_by::<1>(canvas, b, x, y, ink),
-        1 => touch_by::<2>(canvas, b, x, y, ink),
-        _ => touch_by::<4>(canvas, b, x, y, ink),
+        0 => touch_by(canvas, b, 1, x, y, ink),
+        1 => touch_by(canvas, b, 2, x, y, ink),
+        _ => touch_by(canvas, b, 4, x, y, ink),
     }
 }

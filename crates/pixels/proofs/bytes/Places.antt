@@ -98,6 +98,12 @@ four_bytes (suc (suc (suc (suc (suc n))))) l h0 h1 = absurd (omega arith)
 pub sized_four : (v : Canvas) (n : ℕ) → v.format ≤ 4 → n ≡ size v → (n ≡ 1 → ⊥) → (n ≡ 2 → ⊥) → size v ≡ 4
 sized_four v n l e h1 h2 = four_bytes v.format l (λ z. h1 (e ∙ one_byte v.format z)) (λ z. h2 (e ∙ two_bytes v.format z))
 
+pub scaled : (v : Canvas) (o i k : ℕ) → o ≡ i → size v ≡ k → o * k ≡ i * size v
+scaled v o i k e z = rw (e, z) refl
+
+pub unscaled : (v : Canvas) (o i : ℕ) → o ≡ i → size v ≡ 1 → o ≡ i * size v
+unscaled v o i e z = rw (e, z) (omega arith)
+
 bytes_le : (f : Format) → bytes_per_pixel f ≤ 4
 unfolding bytes_per_pixel
 bytes_le rgb332 = omega arith
@@ -170,3 +176,7 @@ module _ (v : Canvas) (b : List ℕ) (x y o s : ℕ) (r : Sized v b) (p : On v x
   read_offset w h =
       let f : o ≡ (y * pitch v + x) * s = e ∙ ap (λ (k : ℕ). (y * pitch v + x) * k) z in
       (read_is v b x y _ s r p refl z w (h.0 ∙ ap (λ (k : ℕ). load (cells s k) b) f), read-lt v b x y _ s r p refl z w h.1)
+
+  pub touch_offset : (b' : List ℕ) (f : ℕ → ℕ) (w w' : ℕ) → w ≡ load (cells s o) b → w' ≡ f w → b' ≡ store (cells s o) b w' → b' ≡ touch v b (hit f x y)
+  unfolding touch load_at store_at pixel
+  touch_offset b' f w w' h k l = l ∙ rw (k, h, e, ← z) refl
