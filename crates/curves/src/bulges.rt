@@ -19,9 +19,9 @@ pub fn part(s: Side, i: u32) -> f32
 {
     let m = s.count - 1;
     let by = s.by;
-    let far = (2 * i).abs_diff(m);
-    let k = (far + s.arc).saturating_sub(m);
-    let n = k as i32 as f32 / by as i32 as f32;
+    let far = ((2 * i) as i32).abs_diff(m as i32);
+    let k = ((far + s.arc) as i32 - m as i32).max(0);
+    let n = k as f32 / by as i32 as f32;
     n * n
 }
 
