@@ -1,33 +1,29 @@
 -- Seeds and files word by word, hex digits two by two, and the bytes they give.
 use mathlib.Core.Bool.{Bool, true, false, ◌&&◌, cond, true≢false}
 use mathlib.Core.List.{List, [], ◌∷◌}
+use mathlib.Core.Logic.{◌⊎◌, inl, inr}
 use mathlib.Core.Path.{◌≡◌, refl, sym, ◌∙◌, ap}
-use Prim.Native.Nat.{ℕ, suc, ◌+◌, ◌*◌, ◌/◌, ◌%◌, ◌<◌, ◌≤◌}
+use Prim.Native.Nat.{ℕ, zero, suc, ◌+◌, ◌*◌, ◌/◌, ◌%◌, ◌<◌, ◌≤◌}
 use native.Mathlib.Decide.{dec_le, ℕ_discrete}
+use native.Mathlib.Numerals.{add-one}
 use native.Mathlib.Omega.{arith}
 use lib.Dec.{eqb, ltb, leb}
 use native.Mathlib.Nat.{lt_of_not-le}
 use lib.ListN.{length, take, drop, get_or, length-drop}
-use lib.Seq.{drop-cons}
+use lib.Seq.{drop-cons, take_all, length-take-le}
 use lib.Pointwise.{pointwise}
-use borrow.Author.Tests.{le-leb, lt-leb, lt-ltb, le-ltb, eq-eqb, ne_eqb, eqb-true}
+use borrow.Author.Tests.{le-leb, lt-leb, eq-eqb, ne_eqb, eqb-true}
 use Rattle.words.proofs.Either.{both}
-use Rattle.std.specs.Prelude.{Option, Some, None, SomeIff, unwrap_or}
-use Rattle.std.specs.List.{list_all}
-use Rattle.std.specs.Borrow.{Bor}
+use Rattle.std.specs.Prelude.{Option, Some, None}
+use Rattle.std.specs.List.{list_all, starts_with}
 use Rattle.std.specs.Char.{is_digit, digit_value}
-use Rattle.cases.specs.Line.{Left, lost, got, after, next}
-use Rattle.cases.specs.Number.{natural, letters, name_of}
-use Rattle.cases.specs.Seed.{Sown, zeros, given, nibble, byte, before, hexes, given_by, given_hex, counted_by, sowing, seed_of, filled, file_of, turns}
-use Rattle.cases.specs.Place.{words_left, left_of, pairs}
-use Rattle.cases.proofs.Numbers.{other_byte}
+use Rattle.cases.specs.Line.{first_word, other_words, Left, words, lost, words_of, got, after, next}
+use Rattle.cases.specs.Number.{natural, letters, number_of, name_of}
+use Rattle.cases.specs.Seed.{zeros, counted, given, nibble, byte, before, hexes, given_by, given_hex, counted_by, sowing, seed_of, filled, file_of, turns}
+use Rattle.cases.specs.Place.{pairs}
+use Rattle.cases.proofs.Words.{word_until, one_word, other_byte, word_read, word_lost}
 
-pub nibble_by : (b : ℕ) (o : Option ℕ) → SomeIff o (digit_value b < 16) (digit_value b) → unwrap_or o 0 ≡ nibble b % 16
-unfolding nibble
-nibble_by b None n = rw (le-ltb (digit_value b) 16 (let h = n in omega arith))
-nibble_by b (Some d) h = rw (lt-ltb (digit_value b) 16 h.0) (omega (arith, h.0, h.1))
-
-is_nibble : (b : ℕ) → ltb (nibble b) 16 ≡ is_digit b 16
+pub is_nibble : (b : ℕ) → ltb (nibble b) 16 ≡ is_digit b 16
 unfolding nibble
 is_nibble b = by (digit_value b) (is_digit b 16) refl
   where
@@ -97,22 +93,6 @@ no_pairs w i h = short (drop (2 * i) w) (omega (arith, length-drop (2 * i) w))
     short (a ∷ []) l = refl
     short (a ∷ b ∷ w) l = absurd (omega arith)
 
--- A word that is one byte, and one that isn't.
-same : (k : ℕ) (w : List ℕ) → pointwise eqb w (k ∷ []) ≡ true → w ≡ k ∷ []
-same k [] t = absurd (true≢false (sym t))
-same k (b ∷ []) t = let e : b ≡ k = eqb-true b k (both (eqb b k) true t).0 in rw e
-same k (b ∷ a ∷ w) t = absurd (true≢false (sym (both (eqb b k) false t).1))
-
-module _ (k : ℕ) (w : List ℕ) {b : Bool} {q : List ℕ} (h : b ≡ pointwise eqb w q) (s : q ≡ k ∷ []) where
-  pub is_word : b ≡ true → w ≡ k ∷ []
-  is_word t = same k w (rw s at (sym h ∙ t))
-
-  pub is_not : b ≡ false → w ≡ k ∷ [] → ⊥
-  is_not t e =
-      let r : pointwise eqb w (k ∷ []) ≡ false = rw s at (sym h ∙ t) in
-      let f : (eqb k k && true) ≡ false = rw e at r in
-      true≢false (rw (eq-eqb k k refl) at f)
-
 -- One turn of the number, as the library's products and sums cut it.
 pub turn : (n m t u : ℕ) → n ≡ suc m → u ≡ (t * 1664525 + 1013904223) % 4294967296 → turns 1013904223 n t ≡ u / 16777216 ∷ turns 1013904223 m u
 unfolding turns
@@ -156,60 +136,114 @@ other_by k w l (Some v) e h m n f = n (one_letter k v w h m e f)
 other_name : (k : ℕ) (w : List ℕ) (l : Left) → 0 < k → k < 256 → (w ≡ k ∷ [] → ⊥) → eqb (after 0 (letters 0 w) l).value k ≡ false
 other_name k w l h m n = ne_eqb (after 0 (letters 0 w) l).value k (other_by k w l (letters 0 w) refl h m n)
 
-pub with_x : (w : List ℕ) → w ≡ 120 ∷ drop 1 w → sowing w ≡ given_hex (drop 1 w)
-unfolding sowing
-with_x w e = ap sowing e
+-- The digits of a word, up to its end.
+not_space : (b : ℕ) → is_digit b 16 ≡ true → b ≡ 32 → ⊥
+not_space b d e = true≢false (sym (rw e at d))
 
-pub without_x : (w : List ℕ) → pointwise eqb (take 1 w) (120 ∷ []) ≡ false → sowing w ≡ counted_by (natural 4294967295 w)
-unfolding sowing natural counted_by
+all_first : (text : List ℕ) (i : ℕ) → ((k : ℕ) → k < i → is_digit (get_or text k 0) 16 ≡ true) → all_digits (take i text) ≡ true
+all_first text zero d = refl
+all_first [] (suc i) d = refl
+all_first (b ∷ text) (suc i) d = rw (d 0 (omega arith)) (all_first text i (λ k l. d (suc k) (omega arith)))
+
+not_all : (text : List ℕ) (i : ℕ) → ((k : ℕ) → k < i → is_digit (get_or text k 0) 16 ≡ true) → i < length text → is_digit (get_or text i 0) 16 ≡ false → (get_or text i 0 ≡ 32 → ⊥)
+    → all_digits (first_word text) ≡ false
+unfolding first_word
+not_all [] i d h f n = absurd (omega arith)
+not_all (b ∷ text) zero d h f n = rw (ne_eqb b 32 n, f)
+not_all (b ∷ text) (suc i) d h f n =
+    let e : is_digit b 16 ≡ true = d 0 (omega arith) in
+    rw (ne_eqb b 32 (not_space b e), e) (not_all text i (λ k l. d (suc k) (omega arith)) (omega arith) f n)
+
+by_words : (text w : List ℕ) (ws : List (List ℕ)) → first_word text ∷ other_words text ≡ w ∷ ws → next (counted 0) given_hex (words_of text) ≡ after (counted 0) (given_hex w) (words ws)
+unfolding next words_of
+by_words text w ws e = ap (λ (us : List (List ℕ)). next (counted 0) given_hex (words us)) e
+
+module _ (text : List ℕ) (i : ℕ) (d : (k : ℕ) → k < i → is_digit (get_or text k 0) 16 ≡ true) where
+  module _ (inside : i < length text) where
+    to_space : get_or text i 0 ≡ 32 → next (counted 0) given_hex (words_of text) ≡ after (counted 0) (given_hex (take i text)) (words_of (drop (i + 1) text))
+    unfolding words_of
+    to_space e = rw (add-one i) (by_words text (take i text) _ (word_until text i inside e (λ k l. not_space (get_or text k 0) (d k l))))
+
+    pub hex_ends : get_or text i 0 ≡ 32 → i % 2 ≡ 0 → next (counted 0) given_hex (words_of text) ≡ got (given (pairs (take i text))) (words_of (drop (i + 1) text))
+    unfolding after
+    hex_ends e z =
+        let l : length (take i text) ≡ i = length-take-le i text (omega arith) in
+        to_space e ∙ rw (← is_hex (take i text) (rw l z) (all_first text i d))
+
+    pub hex_stops : is_digit (get_or text i 0) 16 ≡ false → (get_or text i 0 ≡ 32 → i % 2 ≡ 0 → ⊥) → (next (counted 0) given_hex (words_of text)).left ≡ lost
+    unfolding after
+    hex_stops f n = by (ℕ_discrete (get_or text i 0) 32)
+      where
+        by : Dec (get_or text i 0 ≡ 32) → (next (counted 0) given_hex (words_of text)).left ≡ lost
+        by (yes e) =
+            let l : length (take i text) ≡ i = length-take-le i text (omega arith) in
+            rw (to_space e, ← odd_hex (take i text) (λ z. n e (rw l at z)))
+        by (no m) = rw (by_words text (first_word text) (other_words text) refl, ← no_hex (first_word text) (not_all text i d inside f m))
+
+  module _ (h : length text ≤ i) where
+    to_end : next (counted 0) given_hex (words_of text) ≡ after (counted 0) (given_hex text) (words [])
+    to_end = by_words text text [] (one_word text (λ k l. not_space (get_or text k 0) (d k (omega arith))))
+
+    pub hex_ended : length text % 2 ≡ 0 → next (counted 0) given_hex (words_of text) ≡ got (given (pairs text)) (words [])
+    unfolding after
+    hex_ended z =
+        let t : all_digits text ≡ true = rw (take_all i text h) at (all_first text i d) in
+        to_end ∙ rw (← is_hex text z t)
+
+    pub hex_odd : (length text % 2 ≡ 0 → ⊥) → (next (counted 0) given_hex (words_of text)).left ≡ lost
+    unfolding after
+    hex_odd n = rw (to_end, ← odd_hex text n)
+
+-- A seed or a file by its word.
+module _ (text : List ℕ) where
+  module _ (us : List (List ℕ)) where
+    pub is_zeros : first_word text ∷ other_words text ≡ (122 ∷ []) ∷ us → seed_of (words_of text) ≡ got zeros (words us)
+    unfolding seed_of name_of next letters after words_of
+    is_zeros e = ap (λ (ws : List (List ℕ)). seed_of (words ws)) e
+
+    pub is_none : first_word text ∷ other_words text ≡ (45 ∷ []) ∷ us → file_of (words_of text) ≡ got (given []) (words us)
+    unfolding file_of name_of next letters after words_of
+    is_none e = ap (λ (ws : List (List ℕ)). file_of (words ws)) e
+
+  pub other_seed : (first_word text ≡ 122 ∷ [] → ⊥) → seed_of (words_of text) ≡ next (counted 0) sowing (words_of text)
+  unfolding seed_of name_of next words_of
+  other_seed n = rw (other_name 122 (first_word text) (words (other_words text)) (omega arith) (omega arith) n)
+
+  pub other_file : (first_word text ≡ 45 ∷ [] → ⊥) → file_of (words_of text) ≡ next (counted 0) filled (words_of text)
+  unfolding file_of name_of next words_of
+  other_file n = rw (other_name 45 (first_word text) (words (other_words text)) (omega arith) (omega arith) n)
+
+  pub with_x : text ≡ 120 ∷ drop 1 text → next (counted 0) sowing (words_of text) ≡ next (counted 0) given_hex (words_of (drop 1 text))
+  unfolding next sowing words_of first_word other_words
+  with_x e = ap (λ (s : List ℕ). next (counted 0) sowing (words_of s)) e
+
+without_x : (text : List ℕ) → pointwise eqb (take 1 text) (120 ∷ []) ≡ false → sowing (first_word text) ≡ counted_by (natural 4294967295 (first_word text))
+unfolding sowing natural counted_by first_word
 without_x [] t = refl
-without_x (b ∷ w) t = rw (other_byte 120 b w t)
+without_x (b ∷ text) t = by (eqb b 32)
+  where
+    by : (q : Bool) → sowing (cond q [] (b ∷ first_word text)) ≡ counted_by (natural 4294967295 (cond q [] (b ∷ first_word text)))
+    by true = refl
+    by false = rw (other_byte 120 b text t)
 
-some_hex : (w : List ℕ) → (length w ≡ 0 → ⊥) → filled w ≡ given_hex w
-unfolding filled
-some_hex [] n = absurd (n refl)
-some_hex (b ∷ w) n = refl
+module _ (text : List ℕ) (t : pointwise eqb (take 1 text) (120 ∷ []) ≡ false) where
+  pub no_count : (number_of 4294967295 (words_of text)).left ≡ lost → (next (counted 0) sowing (words_of text)).left ≡ lost
+  unfolding number_of next after words_of counted_by
+  no_count e = rw (without_x text t, word_lost 0 (natural 4294967295 (first_word text)) (other_words text) e)
 
-module _ (l : Option (Bor (List ℕ))) where
-  pub no_seed : words_left l ≡ [] → (seed_of (left_of l)).left ≡ lost
-  unfolding seed_of name_of next
-  no_seed e = rw e
+  pub a_count : (n : ℕ) (us : List (List ℕ)) → number_of 4294967295 (words_of text) ≡ got n (words us) → next (counted 0) sowing (words_of text) ≡ got (counted n) (words us)
+  unfolding number_of next after words_of counted_by
+  a_count n us e =
+      let p = word_read 0 (natural 4294967295 (first_word text)) (other_words text) us n e in
+      rw (without_x text t, p.0, p.1)
 
-  pub no_file : words_left l ≡ [] → (file_of (left_of l)).left ≡ lost
-  unfolding file_of name_of next
-  no_file e = rw e
+pub no_bytes : (text : List ℕ) → (length text ≡ 0) ⊎ (starts_with eqb text (32 ∷ []) ≡ true) → (next (counted 0) filled (words_of text)).left ≡ lost
+unfolding next filled after words_of first_word other_words
+no_bytes [] o = refl
+no_bytes (b ∷ text) (inl z) = absurd (omega arith)
+no_bytes (b ∷ text) (inr t) = let e : 32 ≡ b = eqb-true 32 b (both (eqb 32 b) true t).0 in rw (← e)
 
-  module _ (l' : Option (Bor (List ℕ))) (w : List ℕ) (e : words_left l ≡ w ∷ words_left l') where
-    pub is_zeros : w ≡ 122 ∷ [] → seed_of (left_of l) ≡ got zeros (left_of l')
-    unfolding seed_of name_of next letters after
-    is_zeros h = rw (e, h)
-
-    pub is_none : w ≡ 45 ∷ [] → file_of (left_of l) ≡ got (given []) (left_of l')
-    unfolding file_of name_of next letters after
-    is_none h = rw (e, h)
-
-    module _ (n : w ≡ 122 ∷ [] → ⊥) where
-      pub seed_lost : sowing w ≡ None → (seed_of (left_of l)).left ≡ lost
-      unfolding seed_of name_of next after
-      seed_lost h = rw (e, other_name 122 w (left_of l') (omega arith) (omega arith) n, h)
-
-      pub seed_read : (s : Sown) → sowing w ≡ Some s → seed_of (left_of l) ≡ got s (left_of l')
-      unfolding seed_of name_of next after
-      seed_read s h = rw (e, other_name 122 w (left_of l') (omega arith) (omega arith) n, h)
-
-    module _ (n : w ≡ 45 ∷ [] → ⊥) where
-      pub empty_file : length w ≡ 0 → (file_of (left_of l)).left ≡ lost
-      unfolding file_of name_of next after filled
-      empty_file z = let h : w ≡ [] = empty w z in rw (e, other_name 45 w (left_of l') (omega arith) (omega arith) n, h)
-        where
-          empty : (w : List ℕ) → length w ≡ 0 → w ≡ []
-          empty [] z = refl
-          empty (b ∷ w) z = absurd (omega arith)
-
-      pub file_lost : (length w ≡ 0 → ⊥) → None ≡ given_hex w → (file_of (left_of l)).left ≡ lost
-      unfolding file_of name_of next after
-      file_lost z h = rw (e, other_name 45 w (left_of l') (omega arith) (omega arith) n, some_hex w z, ← h)
-
-      pub file_read : (length w ≡ 0 → ⊥) → (s : Sown) → Some s ≡ given_hex w → file_of (left_of l) ≡ got s (left_of l')
-      unfolding file_of name_of next after
-      file_read z s h = rw (e, other_name 45 w (left_of l') (omega arith) (omega arith) n, some_hex w z, ← h)
+pub some_bytes : (text : List ℕ) → (length text ≡ 0 → ⊥) → starts_with eqb text (32 ∷ []) ≡ false → next (counted 0) filled (words_of text) ≡ next (counted 0) given_hex (words_of text)
+unfolding next filled words_of first_word other_words
+some_bytes [] n t = absurd (n refl)
+some_bytes (b ∷ text) n t = rw (ne_eqb b 32 (λ e. true≢false (rw (eq-eqb 32 b (sym e)) at t)))

@@ -52,7 +52,8 @@ fn put_digits(out: &mut [u8], at: usize, base: u64, k: usize, n: u64) -> usize
     at + k
 }
 
-// How many digits n has, up to 20.
+// How many digits n has, up to 20. Inlined, as what puts a number is, so that the base it divides by is a constant.
+#[inline(always)]
 fn places(base: u64, n: u64) -> usize
     requires { 1 < base }
     ensures value { result ≡ places_of base 19 n }
@@ -69,6 +70,7 @@ fn places(base: u64, n: u64) -> usize
 }
 
 // Puts a number.
+#[inline(always)]
 fn put_number(out: &mut [u8], at: usize, base: u64, n: u64) -> usize
     requires lt_base { (1 < base) × (base ≤ 256) }
     requires at_in_bounds { at + 20 ≤ length out.old }

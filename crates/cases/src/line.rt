@@ -1,15 +1,20 @@
 // The words of a line, one after the other. What is left of it is the part from a word on, or nothing once its last word
 // is read.
-ghost use Rattle.std.specs.Prelude.{◌≡◌, [], ◌∷◌, MatchOption};
+ghost use Rattle.std.specs.Prelude.{◌≡◌, ◌≢◌, ℕ, List, [], ◌∷◌, MatchOption};
+ghost use Rattle.cases.specs.Line.{first_word, other_words};
 ghost use Rattle.cases.specs.Place.{words_left};
 
-// The first word that is left, and what is left after it.
-pub(crate) fn next_word(left: Option<&[u8]>) -> Option<(&[u8], Option<&[u8]>)>
-    ensures { MatchOption result (words_left left.entry ≡ []) (λ p. words_left left.entry ≡ p.0.now ∷ words_left p.1) }
+// What is left after the first word, if that is this byte alone.
+pub(crate) fn alone(text: &[u8], b: u8) -> Option<Option<&[u8]>>
+    requires { b ≢ 32 }
+    ensures { MatchOption result (first_word text.now ≢ b ∷ []) (λ l. first_word text.now ∷ other_words text.now ≡ (b ∷ []) ∷ words_left l) }
 {
-    let text = left?;
-    match text.iter().position(|b| *b == b' ') {
-        Some(i) => Some((&text[..i], Some(&text[i + 1..]))),
-        None => Some((text, None)),
+    let (first, rest) = text.split_first()?;
+    if *first != b {
+        return None;
     }
+    if rest.is_empty() {
+        return Some(None);
+    }
+    Some(Some(rest.strip_prefix(b" ")?))
 }

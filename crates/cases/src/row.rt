@@ -1,5 +1,5 @@
 // The arguments of a line.
-ghost use Rattle.std.specs.Prelude.{◌≡◌, ◌<◌, ◌≤◌, length};
+ghost use Rattle.std.specs.Prelude.{◌≡◌, ◌<◌, ◌≤◌, length, option_map};
 ghost use Rattle.cases.specs.Place.{Reads, left_of, taken};
 ghost use Rattle.cases.specs.Line.{got};
 ghost use Rattle.cases.specs.Row.{word_of, arg_of, args_of};
@@ -20,10 +20,10 @@ fn read_word<'a>(
     left: Option<&'a [u8]>,
     i: usize,
     kind: Kind,
-    numbers: [u32; 16],
+    numbers: &[u32; 16],
 ) -> Option<(u32, Option<&'a [u8]>)>
     requires { i < 16 }
-    ensures { Reads (λ n. n) result (word_of i kind numbers (left_of left.entry)) }
+    ensures { Reads (λ n. n) result (word_of i kind numbers.now (left_of left.entry)) }
 {
     match kind {
         Kind::Row(back) => Some(read_named(left, b"row=", numbers[i.saturating_sub(back)])),
@@ -32,30 +32,31 @@ fn read_word<'a>(
     }
 }
 
-// Reads one more argument, which is the word i of them.
+// Reads one more argument, which is the word i of them, and answers what is left after it.
 fn take<'a>(
     left: Option<&'a [u8]>,
     i: usize,
     kind: Kind,
-    args: Args<'a>,
-) -> Option<(Args<'a>, Option<&'a [u8]>)>
+    args: &mut Args<'a>,
+) -> Option<Option<&'a [u8]>>
     requires { i < 16 }
-    ensures { Reads taken result (arg_of i kind (got (taken args.entry) (left_of left.entry))) }
+    ensures { Reads taken (option_map (λ l. (args.new, l)) result) (arg_of i kind (got (taken args.old) (left_of left.entry))) }
 {
     match kind {
         Kind::Seed => {
             let (seed, left) = read_seed(left)?;
-            Some((Args { seed, ..args }, left))
+            args.seed = seed;
+            Some(left)
         }
         Kind::File => {
             let (seed, left) = read_file(left)?;
-            Some((Args { seed, ..args }, left))
+            args.seed = seed;
+            Some(left)
         }
         _ => {
-            let mut numbers = args.numbers;
-            let (n, left) = read_word(left, i, kind, numbers)?;
-            numbers[i] = n;
-            Some((Args { numbers, ..args }, left))
+            let (n, left) = read_word(left, i, kind, &args.numbers)?;
+            args.numbers[i] = n;
+            Some(left)
         }
     }
 }
@@ -74,7 +75,7 @@ pub(crate) fn read_args<'a>(
     };
     let mut left = left;
     for (i, kind) in kinds.iter().enumerate() {
-        (args, left) = take(left, i, *kind, args)?;
+        left = take(left, i, *kind, &mut args)?;
     }
     Some((args, left))
 }

@@ -1,12 +1,12 @@
 // What the bytes of a canvas hold first.
-ghost use Rattle.std.specs.Prelude.{◌≡◌, ◌<◌, ◌*◌, ◌%◌, length, option_map};
-ghost use Rattle.std.specs.List.{list_all};
+ghost use Rattle.std.specs.Prelude.{◌≡◌, ◌<◌, ◌*◌, ◌%◌, length};
 ghost use Rattle.std.specs.Char.{is_digit};
+ghost use Rattle.cases.specs.Line.{words_of, next};
 ghost use Rattle.cases.specs.Place.{sown, Reads, left_of, Fills, pairs};
-ghost use Rattle.cases.specs.Seed.{given, seed_of, given_hex, file_of, first_bytes, turns};
+ghost use Rattle.cases.specs.Seed.{given_hex, counted, seed_of, file_of, first_bytes, turns};
 ghost use Rattle.cases.specs.Seed.{nibble as nibble_of};
 
-use crate::line::next_word;
+use crate::line::alone;
 use crate::number::number;
 
 #[derive(Clone, Copy)]
@@ -21,13 +21,16 @@ pub(crate) enum Seed<'a> {
 pub(crate) fn read_seed(left: Option<&[u8]>) -> Option<(Seed<'_>, Option<&[u8]>)>
     ensures { Reads sown result (seed_of (left_of left.entry)) }
 {
-    let (word, left) = next_word(left)?;
-    if word == b"z".as_slice() {
+    let text = left?;
+    if let Some(left) = alone(text, b'z') {
         return Some((Seed::Zeros, left));
     }
-    match word.strip_prefix(b"x") {
-        Some(digits) => Some((Seed::Bytes(hex(digits)?), left)),
-        None => Some((Seed::Number(number(word, u32::MAX)?), left)),
+    match text.strip_prefix(b"x") {
+        Some(digits) => hex(digits),
+        None => {
+            let (n, left) = number(text, u32::MAX)?;
+            Some((Seed::Number(n), left))
+        }
     }
 }
 
@@ -35,44 +38,50 @@ pub(crate) fn read_seed(left: Option<&[u8]>) -> Option<(Seed<'_>, Option<&[u8]>)
 pub(crate) fn read_file(left: Option<&[u8]>) -> Option<(Seed<'_>, Option<&[u8]>)>
     ensures { Reads sown result (file_of (left_of left.entry)) }
 {
-    let (word, left) = next_word(left)?;
-    if word == b"-".as_slice() {
+    let text = left?;
+    if let Some(left) = alone(text, b'-') {
         return Some((Seed::Bytes(&[]), left));
     }
-    if word.is_empty() {
+    if text.is_empty() || text.starts_with(b" ") {
         return None;
     }
-    Some((Seed::Bytes(hex(word)?), left))
+    hex(text)
 }
 
 fn is_digit(b: u8) -> bool
     ensures { result ≡ is_digit b 16 }
 {
-    char::from(b).is_digit(16)
+    b.is_ascii_hexdigit()
 }
 
-fn all_digits(word: &[u8]) -> bool
-    ensures { result ≡ list_all (λ b. is_digit b 16) word.now }
+// The hex digits that the first word is, two for each byte.
+fn hex(text: &[u8]) -> Option<(Seed<'_>, Option<&[u8]>)>
+    ensures { Reads sown result (next (counted 0) given_hex (words_of text.now)) }
 {
-    word.iter().all(|b| is_digit(*b))
-}
-
-// Hex digits, two for each byte.
-fn hex(word: &[u8]) -> Option<&[u8]>
-    ensures { option_map (λ d. given (pairs d.now)) result ≡ given_hex word.now }
-{
-    if word.len() % 2 != 0 {
+    for (i, b) in text.iter().enumerate() {
+        if !is_digit(*b) {
+            if *b != b' ' || i % 2 != 0 {
+                return None;
+            }
+            return Some((Seed::Bytes(&text[..i]), Some(&text[i + 1..])));
+        }
+    }
+    if text.len() % 2 != 0 {
         return None;
     }
-    if all_digits(word) { Some(word) } else { None }
+    Some((Seed::Bytes(text), None))
 }
 
-// What a hex digit stands for; 0 for what is none.
+// What a hex digit stands for; 16 for what is none.
 fn nibble(b: u8) -> u8
-    ensures value { result ≡ nibble_of b % 16 }
-    ensures upper_bound { result < 16 }
+    ensures { result ≡ nibble_of b }
 {
-    char::from(b).to_digit(16).unwrap_or(0) as u8
+    match b {
+        b'0'..=b'9' => b - b'0',
+        b'A'..=b'F' => b - b'A' + 10,
+        b'a'..=b'f' => b - b'a' + 10,
+        _ => 16,
+    }
 }
 
 // Puts the seed's first bytes into all of bytes.
@@ -103,6 +112,6 @@ fn decode(digits: &[u8], bytes: &mut [u8])
     ensures { bytes.new ≡ pairs digits.now }
 {
     for (i, byte) in bytes.iter_mut().enumerate() {
-        *byte = nibble(digits[2 * i]) * 16 + nibble(digits[2 * i + 1]);
+        *byte = nibble(digits[2 * i]) % 16 * 16 + nibble(digits[2 * i + 1]) % 16;
     }
 }

@@ -1,13 +1,12 @@
 -- `named` reads what is behind a name.
-use mathlib.Core.Path.{sym, ◌∙◌, ap}
-use Rattle.cases.specs.Number.{natural}
+use mathlib.Core.Path.{sym}
 use Rattle.cases.proofs.Numbers.{with_name, without_name}
 use Rattle.cases.proofs.number.named.Goals as goal
 
 pub returns-in_err-strip_prefix : goal.returns-in_err-strip_prefix
-returns-in_err-strip_prefix c = c.from_residual.ensures ∙ sym (without_name c.args.name.now c.args.word.now c.in_err-strip_prefix.ensures.cases)
+returns-in_err-strip_prefix c = rw c.from_residual.ensures (without_name c.args.name.now c.args.text.now c.requires c.in_err-strip_prefix.ensures.cases)
 
 pub returns : goal.returns
 returns c =
     let p = c.in_ok-strip_prefix.ensures.cases in
-    c.number.ensures ∙ ap (natural 4294967295) p.1 ∙ sym (with_name c.args.name.now c.args.word.now p.0)
+    rw (with_name c.args.name.now c.args.text.now c.requires p.0, sym p.1) c.number.ensures

@@ -1,52 +1,60 @@
--- `number` takes digits in while there are some.
-use mathlib.Core.Path.{◌≡◌, sym, ◌∙◌}
-use Prim.Native.Nat.{ℕ, ◌+◌, ◌*◌, ◌<◌, ◌≤◌}
+-- `number` takes digits in up to the word's end.
+use mathlib.Core.Path.{refl, sym, ◌∙◌}
+use Prim.Native.Nat.{◌+◌, ◌*◌, ◌≤◌}
 use native.Mathlib.Omega.{arith}
-use mathlib.Core.Bool.{Bool, false}
-use lib.Dec.{eqb}
 use borrow.Author.Tests.{eqb-true, eqb-false}
-use Rattle.cases.proofs.Numbers.{begun, empty_word, digit_more, digit_beyond, no_digit, digits_end}
+use Rattle.std.proofs.lemmas.List.{take_rest}
+use Rattle.cases.specs.Line.{words_of}
+use Rattle.cases.specs.Number.{number_of}
+use Rattle.cases.proofs.Numbers.{from_byte, number_ends, number_stops, number_beyond, number_more, number_ended, no_number}
+use Rattle.cases.proofs.number.number.Goals.{then-b-ne32-via-then-b-ne32, then-b-ne32-via-else-b-ne32+then-i-eq0}
 use Rattle.cases.proofs.number.number.Goals as goal
 
-below_ten : (d v : ℕ) → (v < 10) × (d ≡ v) → d < 10
-below_ten d v h = rw h.1 h.0
+pub loop-i-init : goal.loop-i-init
+unfolding number_of from_byte
+loop-i-init c = record { within = omega arith; none_yet = λ e. e; still = refl }
 
-some_word : (b : Bool) (n : ℕ) → b ≡ eqb n 0 → b ≡ false → n ≡ 0 → ⊥
-some_word b n e f = eqb-false n 0 (sym e ∙ f)
+pub returns-then-b-ne32 : goal.returns-then-b-ne32
+returns-then-b-ne32 c =
+    let a = c.args in
+    let l = c.loop-i in
+    number_stops a.most a.text.now l.i l.value l.invariant.none_yet l.invariant.still _ c.loop-i-test.true refl
+    (elim c.then-b-ne32.branch [ then-b-ne32-via-then-b-ne32 w ↦ λ e. absurd (w.if-b-ne32.true e) | then-b-ne32-via-else-b-ne32+then-i-eq0 w ↦ λ e. w.if-i-eq0.true ])
+    c.if-not-is_ascii_digit.ensures.cases
 
-pub returns-then-is_empty : goal.returns-then-is_empty
-returns-then-is_empty c = empty_word c.args.most c.args.word.now (eqb-true _ 0 (sym c.is_empty.ensures ∙ c.if-is_empty.true))
-
-pub returns-in_err-digit : goal.returns-in_err-digit
-returns-in_err-digit c =
-    let l = c.loop-b in
-    let lost = no_digit c.args.most l.value c.args.word.now l.b-index c.from.result c.loop-b-test.true c.from.ensures c.in_err-digit.ensures.cases in
-    c.from_residual.ensures ∙ sym (begun c.args.most c.args.word.now (some_word _ _ c.is_empty.ensures c.if-is_empty.false) ∙ l.invariant.still ∙ lost)
+pub returns-then-not-is_ascii_digit : goal.returns-then-not-is_ascii_digit
+unfolding words_of
+returns-then-not-is_ascii_digit c =
+    let a = c.args in
+    let l = c.loop-i in
+    rw take_rest (number_ends a.most a.text.now l.i l.value l.invariant.none_yet l.invariant.still _ c.loop-i-test.true refl c.if-b-ne32.false c.if-i-eq0.false)
 
 pub returns-then-from-longer : goal.returns-then-from-longer
 returns-then-from-longer c =
-    let l = c.loop-b in
-    let d = c.in_ok-digit.ensures in
-    let k : c.in_ok-digit.digit < 10 = below_ten _ _ d.value in
-    let lost = digit_beyond c.args.most l.value c.args.word.now l.b-index c.from.result c.loop-b-test.true c.from.ensures c.in_ok-digit.digit d.cases k
-    (omega (arith, c.from-in-loop-b.ensures, c.from-in-loop-b-2.ensures, c.from-in-loop-b-3.ensures)) in
-    sym (begun c.args.most c.args.word.now (some_word _ _ c.is_empty.ensures c.if-is_empty.false) ∙ l.invariant.still ∙ lost)
+    let a = c.args in
+    let l = c.loop-i in
+    let d = c.if-not-is_ascii_digit.ensures.cases in
+    number_beyond a.most a.text.now l.i l.value l.invariant.none_yet l.invariant.still _ c.loop-i-test.true refl d.0 d.1
+    (omega (arith, c.from.ensures, c.from-in-loop-i.ensures, c.from-in-loop-i-2.ensures))
 
-pub loop-b-preserved : goal.loop-b-preserved
-loop-b-preserved c =
-    let l = c.loop-b in
-    let d = c.in_ok-digit.ensures in
-    let k : c.in_ok-digit.digit < 10 = below_ten _ _ d.value in
-    let fits : c.from-in-loop-b.result * 10 + c.from-in-loop-b-2.result ≤ c.args.most = omega (arith, c.from-in-loop-b-3.ensures) in
+pub loop-i-preserved : goal.loop-i-preserved
+loop-i-preserved c =
+    let a = c.args in
+    let l = c.loop-i in
+    let d = c.if-not-is_ascii_digit.ensures.cases in
+    let fits : c.from.result * 10 + c.from-in-loop-i.result ≤ a.most = omega (arith, c.from-in-loop-i-2.ensures) in
     record {
       within = fits;
-      still = l.invariant.still ∙ (rw (c.from-in-loop-b.ensures, c.from-in-loop-b-2.ensures)
-          (digit_more c.args.most l.value c.args.word.now l.b-index c.from.result c.loop-b-test.true c.from.ensures c.in_ok-digit.digit d.cases k
-          (rw (c.from-in-loop-b.ensures, c.from-in-loop-b-2.ensures) at fits)));
+      none_yet = λ e. absurd (omega arith);
+      still = rw (c.from.ensures, c.from-in-loop-i.ensures)
+          (number_more a.most a.text.now l.i l.value l.invariant.none_yet l.invariant.still _ c.loop-i-test.true refl d.0 d.1 (rw (c.from.ensures, c.from-in-loop-i.ensures) at fits));
     }
 
-pub returns : goal.returns
-returns c =
-    let l = c.loop-b in
-    sym (begun c.args.most c.args.word.now (some_word _ _ c.is_empty.ensures c.if-is_empty.false) ∙ l.invariant.still ∙
-    digits_end c.args.most l.value c.args.word.now l.b-index c.loop-b-test.false)
+pub returns-then-is_empty : goal.returns-then-is_empty
+returns-then-is_empty c = no_number c.args.most c.args.text.now (eqb-true _ 0 (sym c.is_empty.ensures ∙ c.if-is_empty.true))
+
+pub returns-else-is_empty : goal.returns-else-is_empty
+returns-else-is_empty c =
+    let a = c.args in
+    let l = c.loop-i in
+    number_ended a.most a.text.now l.i l.value l.invariant.none_yet l.invariant.still c.loop-i-test.false (eqb-false _ 0 (sym c.is_empty.ensures ∙ c.if-is_empty.false))

@@ -1,9 +1,15 @@
--- The digits still to come, after the value so far, are all.
+-- What is left to read, after the value so far, is what was there to read.
 use mathlib.Core.Path.{◌≡◌}
 use Prim.Native.Nat.{◌≤◌}
 use lib.ListN.{drop}
-use Rattle.cases.specs.Number.{digits}
+use Rattle.cases.specs.Line.{words_of, next}
+use Rattle.cases.specs.Number.{number_of}
+use Rattle.cases.proofs.Numbers.{from_byte}
 use Rattle.cases.proofs.number.number.Given as goal
 
-abbrev pub invariant-loop-b : goal.invariant-loop-b
-invariant-loop-b l = record { within : l.value ≤ l.most; still : digits l.most 0 l.word ≡ digits l.most l.value (drop l.b-index l.word) }
+abbrev pub invariant-loop-i : goal.invariant-loop-i
+invariant-loop-i l = record {
+  within : l.value ≤ l.most;
+  none_yet : l.i ≡ 0 → l.value ≡ 0;
+  still : number_of l.most (words_of l.text) ≡ next 0 (from_byte l.most l.i l.value) (words_of (drop l.i l.text));
+}

@@ -13,4 +13,4 @@ returns-in-Rule c = rw c.in-Rule.is c.read_named-in-Rule.ensures
 
 pub returns-in_default : goal.returns-in_default
 returns-in_default c =
-    rw (other_word c.args.i c.args.kind c.args.numbers _ c.in_default.not-Rule c.in_default.not-Row) c.read_kind.ensures
+    rw (other_word c.args.i c.args.kind c.args.numbers.now _ c.in_default.not-Rule c.in_default.not-Row) c.read_kind.ensures

@@ -17,7 +17,7 @@ pub returns-in_err-n-in_default : goal.returns-in_err-n-in_default
 unfolding numbered
 returns-in_err-n-in_default c =
     let a = c.args in
-    rw (c.from_residual-in_err-n-in_default.ensures, other_arg a.i a.kind (got (taken a.args) (left_of a.left)) c.in_default.not-Seed c.in_default.not-File)
+    rw (c.from_residual-in_err-n-in_default.ensures, other_arg a.i a.kind (got (taken a.args.now) (left_of a.left)) c.in_default.not-Seed c.in_default.not-File)
     c.in_err-n-in_default.ensures
 
 pub returns-in_ok-seed-in-Seed : goal.returns-in_ok-seed-in-Seed
@@ -32,4 +32,4 @@ pub returns-in_ok-n-in_default : goal.returns-in_ok-n-in_default
 unfolding numbered
 returns-in_ok-n-in_default c =
     let a = c.args in
-    rw (other_arg a.i a.kind (got (taken a.args) (left_of a.left)) c.in_default.not-Seed c.in_default.not-File, c.in_ok-n-in_default.ensures)
+    rw (other_arg a.i a.kind (got (taken a.args.now) (left_of a.left)) c.in_default.not-Seed c.in_default.not-File, c.in_ok-n-in_default.ensures)

@@ -15,7 +15,7 @@ loop-i-preserved c =
     let l = c.loop-i in
     let w = c.args.digits.now in
     let more = pair_more w l.i (omega (arith, c.requires, length_pairs w)) in
-    rw (c.nibble.ensures.value, c.nibble-in-loop-i.ensures.value) (fill_step l.bytes l.i _ l.invariant _ _ (omega arith) more)
+    rw (c.nibble.ensures, c.nibble-in-loop-i.ensures) (fill_step l.bytes l.i _ l.invariant _ _ (omega arith) more)
 
 pub returns : goal.returns
 returns c =

@@ -1,9 +1,33 @@
--- The library's digits are these.
-use Rattle.cases.proofs.Seeds.{nibble_by}
-use mathlib.Core.Path.{◌∙◌}
+-- `nibble` makes the tests of its definition.
+use Rattle.std.proofs.Common.{arith}
+use Rattle.std.proofs.lemmas.Grind.{common_steps}
+use Rattle.cases.specs.Seed.{nibble}
 use Rattle.cases.proofs.seed.nibble.Goals as goal
 
-pub returns-clause-value : goal.returns-clause-value
-returns-clause-value c =
-    let h = c.to_digit.ensures.value in
-    c.unwrap_or.ensures ∙ nibble_by c.args.b c.to_digit.result (rw c.from.ensures at h)
+pub returns-in-48-to-57 : goal.returns-in-48-to-57
+unfolding nibble
+returns-in-48-to-57 c = grind (arith, common_steps)
+
+pub returns-in-65-to-70 : goal.returns-in-65-to-70
+unfolding nibble
+returns-in-65-to-70 c = grind (arith, common_steps)
+
+pub returns-in-97-to-102 : goal.returns-in-97-to-102
+unfolding nibble
+returns-in-97-to-102 c = grind (arith, common_steps)
+
+pub returns-in_default : goal.returns-in_default
+unfolding nibble
+returns-in_default c = grind (arith, common_steps)
+
+pub returns-in_default-2 : goal.returns-in_default-2
+unfolding nibble
+returns-in_default-2 c = grind (arith, common_steps)
+
+pub returns-in_default-3 : goal.returns-in_default-3
+unfolding nibble
+returns-in_default-3 c = grind (arith, common_steps)
+
+pub returns-in_default-4 : goal.returns-in_default-4
+unfolding nibble
+returns-in_default-4 c = grind (arith, common_steps)

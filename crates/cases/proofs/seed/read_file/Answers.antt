@@ -1,34 +1,41 @@
 -- A file by its word: a minus, or hex of a byte at least.
+use mathlib.Core.Logic.{inl, inr}
 use mathlib.Core.Path.{sym, ◌∙◌}
 use borrow.Author.Tests.{eqb-true, eqb-false}
-use Rattle.cases.specs.Place.{pairs}
-use Rattle.cases.proofs.Seeds.{no_file, is_word, is_not, is_none, empty_file, file_lost, file_read}
+use Rattle.cases.specs.Line.{words_of, next}
+use Rattle.cases.specs.Number.{name_of}
+use Rattle.cases.specs.Place.{words_left, pairs}
+use Rattle.cases.specs.Seed.{file_of}
+use Rattle.cases.proofs.Seeds.{is_none, other_file, no_bytes, some_bytes}
+use Rattle.cases.proofs.seed.read_file.Goals.{then-is_empty-via-then-is_empty, then-is_empty-via-else-is_empty+then-starts_with}
 use Rattle.cases.proofs.seed.read_file.Goals as goal
 
-pub returns-in_err-word : goal.returns-in_err-word
-returns-in_err-word c = rw c.from_residual.ensures (no_file c.args.left c.in_err-word.ensures)
+pub returns-in_err-text : goal.returns-in_err-text
+unfolding file_of name_of next
+returns-in_err-text c = rw (c.from_residual.ensures, c.in_err-text.was)
 
-pub returns-then-eq : goal.returns-then-eq
-unfolding pairs
-returns-then-eq c =
-    let w = c.in_ok-word in
-    is_none c.args.left w.left w.word.now w.ensures (is_word 45 w.word.now c.eq.ensures c.as_slice.ensures c.if-eq.true)
+pub returns-in-Some : goal.returns-in-Some
+unfolding words_of pairs
+returns-in-Some c = rw c.in_ok-text.was (is_none c.in_ok-text.text.now (words_left c.in-Some.left) c.in-Some.ensures)
 
 pub returns-then-is_empty : goal.returns-then-is_empty
+unfolding words_of
 returns-then-is_empty c =
-    let w = c.in_ok-word in
-    empty_file c.args.left w.left w.word.now w.ensures (is_not 45 w.word.now c.eq.ensures c.as_slice.ensures c.if-eq.false)
-    (eqb-true _ 0 (sym c.is_empty.ensures ∙ c.if-is_empty.true))
-
-pub returns-in_err-hex : goal.returns-in_err-hex
-returns-in_err-hex c =
-    let w = c.in_ok-word in
-    rw c.from_residual-in_err-hex.ensures
-    (file_lost c.args.left w.left w.word.now w.ensures (is_not 45 w.word.now c.eq.ensures c.as_slice.ensures c.if-eq.false)
-    (eqb-false _ 0 (sym c.is_empty.ensures ∙ c.if-is_empty.false)) c.in_err-hex.ensures)
+    let w = c.in_ok-text.text.now in
+    rw (c.in_ok-text.was, other_file w c.in_default.ensures)
+    (no_bytes w
+    (elim c.then-is_empty.branch [
+      | then-is_empty-via-then-is_empty t ↦ inl (eqb-true _ 0 (sym c.is_empty.ensures ∙ t.if-is_empty.true))
+      | then-is_empty-via-else-is_empty+then-starts_with t ↦ inr (sym t.starts_with.ensures.value ∙ t.if-starts_with.true)
+    ]))
 
 pub returns : goal.returns
+unfolding words_of
 returns c =
-    let w = c.in_ok-word in
-    file_read c.args.left w.left w.word.now w.ensures (is_not 45 w.word.now c.eq.ensures c.as_slice.ensures c.if-eq.false)
-    (eqb-false _ 0 (sym c.is_empty.ensures ∙ c.if-is_empty.false)) _ c.in_ok-hex.ensures
+    let w = c.in_ok-text.text.now in
+    rw (
+      c.in_ok-text.was,
+      other_file w c.in_default.ensures,
+      some_bytes w (eqb-false _ 0 (sym c.is_empty.ensures ∙ c.if-is_empty.false)) (sym c.starts_with.ensures.value ∙ c.if-starts_with.false),
+    )
+    c.hex.ensures

@@ -1,44 +1,37 @@
 -- A seed by its word: `z`, or `x` and hex, or a number.
-use mathlib.Core.Path.{sym, ◌∙◌, ap}
-use Rattle.cases.specs.Seed.{given_hex, counted_by}
-use Rattle.cases.proofs.Numbers.{after_byte}
-use Rattle.cases.proofs.Seeds.{no_seed, is_word, is_not, is_zeros, seed_lost, seed_read, with_x, without_x}
+use mathlib.Core.Path.{sym}
+use Rattle.cases.specs.Line.{words_of, next}
+use Rattle.cases.specs.Number.{name_of}
+use Rattle.cases.specs.Place.{words_left}
+use Rattle.cases.specs.Seed.{seed_of}
+use Rattle.cases.proofs.Words.{after_byte}
+use Rattle.cases.proofs.Seeds.{is_zeros, other_seed, with_x, no_count, a_count}
 use Rattle.cases.proofs.seed.read_seed.Goals as goal
 
-pub returns-in_err-word : goal.returns-in_err-word
-returns-in_err-word c = rw c.from_residual.ensures (no_seed c.args.left c.in_err-word.ensures)
+pub returns-in_err-text : goal.returns-in_err-text
+unfolding seed_of name_of next
+returns-in_err-text c = rw (c.from_residual.ensures, c.in_err-text.was)
 
-pub returns-then-eq : goal.returns-then-eq
-returns-then-eq c =
-    let w = c.in_ok-word in
-    is_zeros c.args.left w.left w.word.now w.ensures (is_word 122 w.word.now c.eq.ensures c.as_slice.ensures c.if-eq.true)
+pub returns-in-Some : goal.returns-in-Some
+unfolding words_of
+returns-in-Some c = rw c.in_ok-text.was (is_zeros c.in_ok-text.text.now (words_left c.in-Some.left) c.in-Some.ensures)
 
-pub returns-in_err-hex-in-Some : goal.returns-in_err-hex-in-Some
-returns-in_err-hex-in-Some c =
-    let w = c.in_ok-word in
-    let p = c.in-Some.ensures.cases in
-    rw c.from_residual-in_err-hex-in-Some.ensures
-    (seed_lost c.args.left w.left w.word.now w.ensures (is_not 122 w.word.now c.eq.ensures c.as_slice.ensures c.if-eq.false)
-    (with_x w.word.now (after_byte 120 w.word.now p.0) ∙ ap given_hex (sym p.1) ∙ sym c.in_err-hex-in-Some.ensures))
+pub returns-in_err-n-in-None : goal.returns-in_err-n-in-None
+unfolding words_of
+returns-in_err-n-in-None c =
+    let w = c.in_ok-text.text.now in
+    rw (c.from_residual-in_err-n-in-None.ensures, c.in_ok-text.was, other_seed w c.in_default.ensures) (no_count w c.in-None.ensures.cases c.in_err-n-in-None.ensures)
 
-pub returns-in_ok-hex-in-Some : goal.returns-in_ok-hex-in-Some
-returns-in_ok-hex-in-Some c =
-    let w = c.in_ok-word in
-    let p = c.in-Some.ensures.cases in
-    seed_read c.args.left w.left w.word.now w.ensures (is_not 122 w.word.now c.eq.ensures c.as_slice.ensures c.if-eq.false) _
-    (with_x w.word.now (after_byte 120 w.word.now p.0) ∙ ap given_hex (sym p.1) ∙ sym c.in_ok-hex-in-Some.ensures)
+pub returns-in-Some-strip_prefix : goal.returns-in-Some-strip_prefix
+unfolding words_of
+returns-in-Some-strip_prefix c =
+    let w = c.in_ok-text.text.now in
+    let p = c.in-Some-strip_prefix.ensures.cases in
+    rw (c.in_ok-text.was, other_seed w c.in_default.ensures, with_x w (after_byte 120 w p.0), sym p.1) c.hex.ensures
 
-pub returns-in_err-number-in-None : goal.returns-in_err-number-in-None
-unfolding counted_by
-returns-in_err-number-in-None c =
-    let w = c.in_ok-word in
-    rw c.from_residual-in_err-number-in-None.ensures
-    (seed_lost c.args.left w.left w.word.now w.ensures (is_not 122 w.word.now c.eq.ensures c.as_slice.ensures c.if-eq.false)
-    (without_x w.word.now c.in-None.ensures.cases ∙ ap counted_by (sym c.in_err-number-in-None.ensures)))
-
-pub returns-in_ok-number-in-None : goal.returns-in_ok-number-in-None
-unfolding counted_by
-returns-in_ok-number-in-None c =
-    let w = c.in_ok-word in
-    seed_read c.args.left w.left w.word.now w.ensures (is_not 122 w.word.now c.eq.ensures c.as_slice.ensures c.if-eq.false) _
-    (without_x w.word.now c.in-None.ensures.cases ∙ ap counted_by (sym c.in_ok-number-in-None.ensures))
+pub returns-in_ok-n-in-None : goal.returns-in_ok-n-in-None
+unfolding words_of
+returns-in_ok-n-in-None c =
+    let w = c.in_ok-text.text.now in
+    let n = c.in_ok-n-in-None in
+    rw (c.in_ok-text.was, other_seed w c.in_default.ensures) (a_count w c.in-None.ensures.cases n.n (words_left n.left) n.ensures)
