@@ -2,8 +2,9 @@
 // of which a place says how much is read and where its line is, and out, of which a place says how much is used.
 #![tactic(auto)]
 
-ghost use Rattle.std.specs.Prelude.{◌≡◌, ◌+◌, ◌-◌, ◌≤◌, [], length, IfOk, IfSome};
+ghost use Rattle.std.specs.Prelude.{◌≡◌, ◌+◌, ◌-◌, ◌≤◌, [], length, IfOk, IfSome, OnOk};
 ghost use Rattle.std.specs.List.{copy_within};
+ghost use Rattle.std.specs.Io.KnownBytes.{Appends};
 ghost use Rattle.dialogue.specs.Line.{first_line, Stands, top, start, ahead, Follows};
 
 use std::error::Error;
@@ -103,6 +104,22 @@ fn wait<R: Read>(input: &mut R, text: &mut [u8], mut kept: usize) -> Result<Opti
     Ok(None)
 }
 
+// Writes all of out, or stops at the first write that takes nothing or fails. std's write_all would go on where a signal broke a
+// write off.
+#[tactic(auto, using(crate::proofs::Laws::written_more))]
+fn write_whole<W: Write>(output: &mut W, out: &[u8]) -> Result<(), Stop>
+    ensures { OnOk result (Appends (W.contents output.old) (W.contents output.new) out.now) }
+{
+    let mut done = 0;
+    while done < out.len() {
+        match output.write(&out[done..]) {
+            Ok(0) | Err(_) => return Err(Stop::Unwritten),
+            Ok(n) => done += n,
+        }
+    }
+    Ok(())
+}
+
 // The line behind the last one, or none at the end of the input. Where none is whole, or less than so much room is left in out,
 // what is used of out is written first; then more is read.
 pub fn next<R: Read, W: Write>(
@@ -121,9 +138,7 @@ pub fn next<R: Read, W: Write>(
     if whole && room <= out.len() - p.used {
         return Ok(Some(p));
     }
-    output
-        .write_all(&out[..p.used])
-        .map_err(|_| Stop::Unwritten)?;
+    write_whole(output, &out[..p.used])?;
     if whole {
         return Ok(Some(Place { used: 0, ..p }));
     }

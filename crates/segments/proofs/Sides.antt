@@ -37,7 +37,7 @@ still p q = refl
 
 -- ---- the four, in their order
 
-four : (x1 y1 x2 y2 : ℤ) (width height : ℕ) (a b c d : Option Part)
+pub four : (x1 y1 x2 y2 : ℤ) (width height : ℕ) (a b c d : Option Part)
     → a ≡ narrowed (neg (sub binary64 (float x2) (float x1))) (sub binary64 (float x1) (neg one)) (Some (part plus_zero one))
     → b ≡ narrowed (sub binary64 (float x2) (float x1)) (sub binary64 (float (pos width)) (float x1)) a
     → c ≡ narrowed (neg (sub binary64 (float y2) (float y1))) (sub binary64 (float y1) (neg one)) b
