@@ -64,6 +64,12 @@ module _ {A : Type 0} (d : A) where
   word_lost (Some b) ws e = cc
   word_lost None ws e = refl
 
+  stops : (f : List ℕ → Option A) (b : ℕ) (w : List ℕ) (ws : List (List ℕ)) (q : Bool) → (q ≡ true → f [] ≡ None) → f (b ∷ w) ≡ None
+      → (next d f (words (cond q [] (b ∷ w) ∷ cond q (w ∷ ws) ws))).left ≡ lost
+  unfolding next after
+  stops f b w ws true m h = rw (m refl)
+  stops f b w ws false m h = rw h
+
   module _ (f : List ℕ → Option A) (text : List ℕ) (i : ℕ) where
     pub at_end : length text ≤ i → next d f (words_of (drop i text)) ≡ after d (f []) (words [])
     unfolding next words_of first_word other_words
@@ -82,12 +88,10 @@ module _ {A : Type 0} (d : A) where
       at_byte g n h = rw (here, ne_eqb b 32 n, h (first_word (drop (i + 1) text)))
 
       pub at_stop : (b ≡ 32 → f [] ≡ None) → ((w : List ℕ) → f (b ∷ w) ≡ None) → (next d f (words_of (drop i text))).left ≡ lost
-      unfolding next words_of first_word other_words after
-      at_stop m h = rw here (by (eqb b 32) refl)
-        where
-          by : (t : Bool) → eqb b 32 ≡ t → (next d f (words (cond t [] (b ∷ first_word (drop (i + 1) text)) ∷ cond t (first_word (drop (i + 1) text) ∷ other_words (drop (i + 1) text)) (other_words (drop (i + 1) text))))).left ≡ lost
-          by true e = rw (m (eqb-true b 32 e))
-          by false e = rw (h (first_word (drop (i + 1) text)))
+      unfolding words_of first_word other_words
+      at_stop m h =
+          let s = drop (i + 1) text in
+          rw here (stops f b (first_word s) (other_words s) (eqb b 32) (λ e. m (eqb-true b 32 e)) (h (first_word s)))
 
 -- A word of one byte, and any other.
 module _ (b : ℕ) (n : b ≡ 32 → ⊥) where

@@ -1,6 +1,6 @@
-// The words of a line, one after the other. What is left of it is the part from a word on, or nothing once its last word
+// A word of a line that is one given byte. What is left of a line is the part from a word on, or nothing once its last word
 // is read.
-ghost use Rattle.std.specs.Prelude.{◌≡◌, ◌≢◌, ℕ, List, [], ◌∷◌, MatchOption};
+ghost use Rattle.std.specs.Prelude.{◌≡◌, ◌≢◌, [], ◌∷◌, MatchOption};
 ghost use Rattle.cases.specs.Line.{first_word, other_words};
 ghost use Rattle.cases.specs.Place.{words_left};
 

@@ -105,7 +105,7 @@ fn wait<R: Read>(input: &mut R, text: &mut [u8], mut kept: usize) -> Result<Opti
 }
 
 // Writes all of out, or stops at the first write that takes nothing or fails. std's write_all would go on where a signal broke a
-// write off.
+// write off before it took anything.
 #[tactic(auto, using(crate::proofs::Laws::written_more))]
 fn write_whole<W: Write>(output: &mut W, out: &[u8]) -> Result<(), Stop>
     ensures { OnOk result (Appends (W.contents output.old) (W.contents output.new) out.now) }
