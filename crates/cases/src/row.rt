@@ -1,5 +1,5 @@
 // The arguments of a line.
-ghost use Rattle.std.specs.Prelude.{◌≡◌, ◌<◌, ◌≤◌, length, option_map};
+ghost use Rattle.std.specs.Prelude.{◌<◌, ◌≤◌, length, option_map};
 ghost use Rattle.cases.specs.Place.{Reads, left_of, taken};
 ghost use Rattle.cases.specs.Line.{got};
 ghost use Rattle.cases.specs.Row.{word_of, arg_of, args_of};

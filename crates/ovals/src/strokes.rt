@@ -1,5 +1,5 @@
 // Strokes: arcs, and the quarters of a round rectangle's corners.
-ghost use Rattle.std.specs.Prelude.{◌≡◌, suc, ◌<◌, ◌≤◌};
+ghost use Rattle.std.specs.Prelude.{◌≡◌, suc, ◌<◌, ◌≤◌, min};
 ghost use Rattle.floats.specs.Degrees.{radians_of};
 ghost use Rattle.words.specs.Ink.{inked};
 ghost use Rattle.pixels.specs.Bytes.{size, Sized};
@@ -52,6 +52,15 @@ fn dab_spots(
     t
 }
 
+fn up_to_16(n: u32) -> u32
+    ensures { result ≡ min n 16 }
+{
+    if n < 16 {
+        return n;
+    }
+    16
+}
+
 // The plots of a stroke of so many steps, the first and the last included, 16 at a time.
 fn stroke_steps(
     canvas: Canvas,
@@ -72,10 +81,12 @@ fn stroke_steps(
     let mut ps = [0u32; 16];
     let mut qs = [0u32; 16];
     let mut t = t0;
-    for i in (0..=steps).step_by(16) {
+    let mut i = 0u32;
+    while i <= steps {
         curves::strokes::spots_from(o, start, sweep, i, steps, &mut ps, &mut qs);
-        let m = (steps + 1 - i).min(16);
+        let m = up_to_16(steps + 1 - i);
         t = dab_spots(canvas, b, xs, ys, n, &ps, &qs, m as usize, ink, t);
+        i += m;
     }
     t
 }

@@ -1,6 +1,5 @@
 -- The stroke's loops: what is left of its points leads to the same end.
-use Rattle.std.proofs.Common.{◌≡◌, ℕ, zero, suc, ◌+◌, ◌-◌, ◌*◌, ◌<◌, ◌≤◌, min, max, List, [], ◌∷◌, length, get_or, sym, refl, ap, ◌∙◌, subst, ap₂, arith}
-use native.Mathlib.Decide.{dec_lt}
+use Rattle.std.proofs.Common.{◌≡◌, ℕ, zero, suc, ◌+◌, ◌-◌, ◌*◌, ◌<◌, ◌≤◌, max, List, [], ◌∷◌, length, get_or, sym, refl, ap, ◌∙◌, ap₂, arith}
 use lib.Ieee.{Float}
 use Rattle.floats.proofs.Rounds.{round_fits}
 use Rattle.curves.specs.declared.oval.Oval.{Oval}
@@ -96,44 +95,35 @@ module _ (o : Oval) (start sweep : Float) (steps : ℕ) where
       rw (e, u) (parts v xs ys f m (suc i) r (dabbed v xs ys f (point_of (stroke_point o start sweep i steps)) w))
 
   pub record Stroking (v : Canvas) (xs ys : Span) (f : ℕ → ℕ) (i : ℕ) (w w₀ : Work) : Type 0 where
+    pub held : i ≤ suc steps
     pub rest : Dabbing v xs ys f (stroke_from o start sweep steps i (suc steps - i)) w (stroke_from o start sweep steps 0 (suc steps)) w₀
-
-  -- what is left after m of them is left after sixteen, of which m are a stroke's
-  after : (i m : ℕ) → m ≡ min (steps + 1 - i) 16 → stroke_from o start sweep steps (i + m) (suc steps - (i + m)) ≡ stroke_from o start sweep steps (i + 16) (suc steps - (i + 16))
-  unfolding stroke_from
-  after i m e = go (dec_lt m 16)
-    where
-      go : Dec (m < 16) → stroke_from o start sweep steps (i + m) (suc steps - (i + m)) ≡ stroke_from o start sweep steps (i + 16) (suc steps - (i + 16))
-      go (yes l) =
-          let p : suc steps - (i + m) ≡ 0 = omega (arith, e) in
-          let q : suc steps - (i + 16) ≡ 0 = omega (arith, e) in
-          rw (p, q) refl
-      go (no l) = let p : m ≡ 16 = omega (arith, e) in ap (λ (n : ℕ). stroke_from o start sweep steps (i + n) (suc steps - (i + n))) p
 
   module _ {v : Canvas} {xs ys : Span} {f : ℕ → ℕ} where
     pub stroking_start : {w : Work} → Stroking v xs ys f 0 w w
-    stroking_start = let n : suc steps - 0 ≡ suc steps = omega arith in record { rest = rw n dabbing_start }
+    stroking_start = let n : suc steps - 0 ≡ suc steps = omega arith in record { held = omega arith; rest = rw n dabbing_start }
 
     pub stroking_room : {i : ℕ} {w w₀ : Work} (m : ℕ) → steps ≤ 1048544 → w₀.tally.landed < 9223372036854775808 → m ≤ 16 → Stroking v xs ys f i w w₀ → w.tally.landed + m < 18446744073709551616
     stroking_room {i} m l k h s = omega (arith, s.rest.few, from-length i (suc steps - i), from-length 0 (suc steps))
 
-    pub stroking_turn : {i : ℕ} {ps qs : List ℕ} {w w' w₀ : Work} (m : ℕ) → m ≡ min (steps + 1 - i) 16 → i ≤ steps
+    pub stroking_turn : {i : ℕ} {ps qs : List ℕ} {w w' w₀ : Work} (m : ℕ) → m ≤ 16 → i + m ≤ suc steps
         → ps ≡ columns (spots_from o start sweep steps i 16) → qs ≡ rows (spots_from o start sweep steps i 16)
-        → w' ≡ dabs v xs ys f (spots_at ps qs 0 m) w → Stroking v xs ys f i w w₀ → Stroking v xs ys f (i + 16) w' w₀
-    stroking_turn {i} {ps} {qs} {w} {w'} {w₀} m e l a b d s =
+        → w' ≡ dabs v xs ys f (spots_at ps qs 0 m) w → Stroking v xs ys f i w w₀ → Stroking v xs ys f (i + m) w' w₀
+    stroking_turn {i} {ps} {qs} {w} {w'} {w₀} m few l a b d s =
         let r = suc steps - (i + m) in
-        let n : suc steps - i ≡ m + r = omega (arith, e) in
+        let n : suc steps - i ≡ m + r = omega arith in
         let p = s.rest in
-        let t : w' ≡ dabs v xs ys f (stroke_from o start sweep steps i m) w = d ∙ ap (λ (ts : List Point). dabs v xs ys f ts w) (sixteen i a b m (omega (arith, e))) in
-        let rest : Dabbing v xs ys f (stroke_from o start sweep steps (i + m) r) w' (stroke_from o start sweep steps 0 (suc steps)) w₀ = record {
-          same =
-              ap (dabs v xs ys f (stroke_from o start sweep steps (i + m) r)) t ∙ sym (parts v xs ys f m i r w) ∙ ap (λ (k : ℕ). dabs v xs ys f (stroke_from o start sweep steps i k) w)
-              (sym n) ∙ p.same;
-          few =
-              let g = dabs_grows v xs ys f (stroke_from o start sweep steps i m) w in
-              omega (arith, p.few, from-length i (suc steps - i), from-length (i + m) r, ap (λ (x : Work). x.tally.landed) t, g, from-length i m);
-        } in
-        record { rest = subst (λ (ts : List Point). Dabbing v xs ys f ts w' (stroke_from o start sweep steps 0 (suc steps)) w₀) (after i m e) rest }
+        let t : w' ≡ dabs v xs ys f (stroke_from o start sweep steps i m) w = d ∙ ap (λ (ts : List Point). dabs v xs ys f ts w) (sixteen i a b m few) in
+        record {
+          held = l;
+          rest = record {
+            same =
+                ap (dabs v xs ys f (stroke_from o start sweep steps (i + m) r)) t ∙ sym (parts v xs ys f m i r w) ∙ ap (λ (k : ℕ). dabs v xs ys f (stroke_from o start sweep steps i k) w)
+                (sym n) ∙ p.same;
+            few =
+                let g = dabs_grows v xs ys f (stroke_from o start sweep steps i m) w in
+                omega (arith, p.few, from-length i (suc steps - i), from-length (i + m) r, ap (λ (x : Work). x.tally.landed) t, g, from-length i m);
+          };
+        }
 
     pub stroking_end : {i : ℕ} {w w₀ : Work} → steps < i → Stroking v xs ys f i w w₀ → w ≡ dabs v xs ys f (stroke_from o start sweep steps 0 (suc steps)) w₀
     unfolding stroke_from
